@@ -12,6 +12,7 @@ use Rattle.eql_laws.specs.Counting.{first_or}
 use Rattle.eql_laws.proofs.LineLemmas.{lines_end_on}
 use Rattle.eql_lane.specs.Views.{IsSameLane, LaneView, setting_of}
 use Rattle.eql_lane.specs.Feeding.{ReadsAt}
+use Rattle.eql_lane.proofs.Digesting.{none_added as digest_added}
 use Rattle.eql_lane.proofs.FeedLines.{lines_both}
 use Rattle.eql_lane.proofs.Reading.{read_both_on}
 
@@ -67,6 +68,7 @@ added_none n = omega arith
 pub read_none : (set : Setting) (cut : LaneCut) → sorted_items cut.items ≡ cut.items → cut ≡ read_on set cut []
 read_none set cut order = λ i. record {
   offset = added_none cut.offset i;
+  digest = digest_added cut.digest i;
   closed = cut.closed;
   best = cut.best;
   counts = record { lines = added_none cut.counts.lines i; accepted = added_none cut.counts.accepted i; late = added_none cut.counts.late i; rejected = added_none cut.counts.rejected i; first = kept_none cut.counts.first i };

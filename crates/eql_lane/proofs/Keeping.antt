@@ -2,6 +2,9 @@
 use Rattle.std.proofs.Common.{◌≡◌, inl, inr, ℕ, ℤ, Bool, true, false, cond, List, [], ◌∷◌, ◌++◌, length, drop, Option, Some, None, refl, sym, ap, ◌∙◌, ◌≤ℤ◌, arith, subst, append_assoc, length-append}
 use Rattle.std.specs.Prelude.{filter, not, IsTrue, IfSome}
 use Rattle.std.proofs.lemmas.List.{append-nil}
+use Rattle.eql_digest.specs.declared.digest.Digest.{Digest}
+use Rattle.eql_digest.specs.Digests.{start}
+use Rattle.eql_digest.proofs.Taking.{with_bytes_append}
 use Rattle.eql_values.specs.declared.order.Mark.{Mark}
 use Rattle.eql_values.specs.declared.order.Mark.TheVariants.{Start, At, End}
 use Rattle.eql_values.specs.declared.item.Item.{Item}
@@ -25,11 +28,13 @@ use Rattle.eql_laws.proofs.CountsOn.{counts_go_on}
 use Rattle.eql_laws.proofs.Kept.{best_goes_on, low_rises}
 use Rattle.eql_laws.proofs.BelowLemmas.{sorted_with_more, sorted_below}
 use Rattle.eql_laws.proofs.MarkLemmas.{at_most_end, at_most_self, at_most_times, at_most_trans, below_up}
+use Rattle.eql_laws.proofs.LineLemmas.{lines_end_on}
 use Rattle.eql_laws.proofs.Lists.{filter_implied}
 use Rattle.eql_lane.specs.declared.ops.LaneReply.TheVariants as reply
 use Rattle.eql_lane.specs.declared.ops.ShardLimit.TheVariants as limit
-use Rattle.eql_lane.specs.Lanes.{Setting, LaneState, GoesOn, ReadsOn, Takes, low, lesser, greater, read_on}
+use Rattle.eql_lane.specs.Lanes.{Setting, LaneState, GoesOn, ReadsOn, Takes, low, lesser, greater, read_on, fresh_cut}
 use Rattle.eql_lane.specs.Keeps.{LaneIs, HandsOut, TakesHandOut, FeedsKeep, FreshIs, CutsBegin}
+use Rattle.eql_lane.proofs.Digesting.{none_added as digest_added}
 
 -- what is dropped of two texts behind the first
 drop_front : (a b : List ℕ) → drop (length a) (a ++ b) ≡ b
@@ -82,6 +87,7 @@ module _ (set : Setting) (mark : Mark) (place : ReadTo) (is_place : IsPlace plac
       let line_end : IsTrue (is_line_end place.first more) = line_end_front place.first more rest (subst (λ (l : List ℕ). IsTrue (is_line_end place.first l)) parts is_place.line_end) in
       λ i. record {
         offset = sym (length-append place.first more) i;
+        digest = sym (with_bytes_append start place.first more) i;
         closed = now;
         best = sym (ap best_of (readable_goes_on set.reads set.shard place.first more line_end) ∙ (best_goes_on (readable set.reads set.shard (lines_in place.first)) (readable set.reads set.shard (lines_after place.first more))).0) i;
         counts = sym (counts_go_on set.reads set.slack set.shard place.first more line_end) i;
@@ -90,6 +96,10 @@ module _ (set : Setting) (mark : Mark) (place : ReadTo) (is_place : IsPlace plac
 
 told_at : (set : Setting) (text : List ℕ) (P : List ℕ → Type 0) → set.text ≡ Some text → IfSome set.text P → P text
 told_at set text P e h = let Q : Option (List ℕ) → Type 0 = λ o. IfSome o P in subst Q e h
+
+open_before : (was now : Bool) → (was ≡ true → now ≡ true) → now ≡ false → was ≡ false
+open_before false now up e = refl
+open_before true now up e = let x = up refl in cc
 
 -- reading on keeps it
 pub reads_keep : (set : Setting) (text : List ℕ) (mark : Mark) (old : LaneState) (n : ℕ) (new : LaneState) → set.text ≡ Some text
@@ -109,6 +119,10 @@ reads_keep set text mark old n new e up r is =
           | inr closed ↦ subst (λ (l : List ℕ). IsTrue (is_line_end (place.first ++ r.more) l)) (sym (goes.at_end closed)) refl
         ];
         at_end = goes.at_end;
+        whole_lines = λ is_open. elim r.ended [
+          | inl ends ↦ lines_end_on place.first r.more (is.is_place.whole_lines (open_before place.closed new.cut.closed (λ was. up (ap (λ (cut : LaneCut). cut.closed) is.cut ∙ was)) is_open)) ends
+          | inr closed ↦ (let e : true ≡ false = sym closed ∙ is_open in cc)
+        ];
       };
       cut = r.cut ∙ ap (λ (cut : LaneCut). let c : LaneCut = record (read_on set cut r.more) { closed = new.cut.closed } in c) is.cut ∙ cut_more set mark place is.is_place is.safe r.more goes.rest parts new.cut.closed;
       given = subst (λ (m : Mark). IsAtMost m mark) (sym r.given) is.given;
@@ -275,8 +289,8 @@ pub fresh_is : FreshIs
 fresh_is set text faults = record {
   place = record { first = []; rest = text; closed = false };
   text_is = refl;
-  is_place = record { line_end = from_start_of text; at_end = λ e. cc };
-  cut = refl;
+  is_place = record { line_end = from_start_of text; at_end = λ e. cc; whole_lines = λ e. refl };
+  cut = ap (λ (d : Digest). let c : LaneCut = record fresh_cut { digest = d } in c) (digest_added start);
   given = refl;
   safe = start_low set.slack;
 }

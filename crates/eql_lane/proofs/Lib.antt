@@ -1,3 +1,4 @@
+pub mod Digesting
 pub mod Keeping
 pub mod BufferLemmas
 pub mod StoreLemmas

@@ -20,7 +20,7 @@ use Rattle.eql_values.specs.declared.cut.LaneCut.{LaneCut}
 use Rattle.eql_values.specs.Accepted.{placed_at}
 use Rattle.eql_values.specs.Ascending.{Ascend, AllAreAfter}
 use Rattle.eql_values.specs.OrderKeys.{order_cmp, tie_cmp}
-use Rattle.eql_lane.specs.Noting.{line_place, placed_lines, placed_item, placed_cut, place_noted, item_noted, LinesAscend, IsUnplaced}
+use Rattle.eql_lane.specs.Noting.{line_place, placed_lines, placed_item, place_noted, item_noted, LinesAscend, IsUnplaced}
 use Rattle.eql_lane.specs.Starts.{MayBegin, MayLift}
 use Rattle.eql_lane.proofs.NoteLemmas.{above, rest_rises}
 
@@ -147,7 +147,7 @@ module _ (first : List ℕ) where
       (up.0, after_up x.order items (All-head (λ (i : Item). i.order.at ≡ 0) x items none) rest up.1, items_up items rest up.2)
 
   -- so a lane may begin with them
-  pub may_begin : (cut : LaneCut) (wanted : List ℕ) → MayLift cut wanted → MayBegin (placed_cut first cut)
+  pub may_begin : (cut : LaneCut) (wanted : List ℕ) → MayLift cut wanted → MayBegin (record cut { items = map (placed_item first) cut.items })
   may_begin cut wanted may = record {
     ascending = items_up cut.items may.unplaced may.begin.ascending;
     lines_to = All-map (λ (item : Item). item.order.line ≤ cut.counts.lines) (placed_item first) cut.items may.begin.lines_to;
@@ -185,6 +185,6 @@ module _ {A : Type 0} (f : A → A) where
 
 -- the cut's events at the places that were noted
 pub noted_cut : (first wanted : List ℕ) (places : List (ℕ × ℕ)) (cut : LaneCut) → places ≡ placed_lines first wanted → All (λ (item : Item). Contains wanted item.order.line) cut.items
-    → ◌≡◌ {A = LaneCut} (record cut { items = map (item_noted places) cut.items }) (placed_cut first cut)
+    → ◌≡◌ {A = LaneCut} (record cut { items = map (item_noted places) cut.items }) (record cut { items = map (placed_item first) cut.items })
 noted_cut first wanted places cut e named =
     ap (λ (items : List Item). let k : LaneCut = record cut { items = items } in k) (ap (λ (l : List (ℕ × ℕ)). map (item_noted l) cut.items) e ∙ noted_items first wanted cut.items named)

@@ -3,6 +3,9 @@ use Rattle.std.proofs.Common.{◌≡◌, ℕ, ◌+◌, ℤ, Bool, true, false, c
 use Rattle.std.specs.Prelude.{IsTrue}
 use Rattle.std.specs.List.{cons_option}
 use Rattle.std.proofs.lemmas.List.Elements.{filter_map-append}
+use Rattle.eql_digest.specs.declared.digest.Digest.{Digest}
+use Rattle.eql_digest.specs.Digests.{with_bytes}
+use Rattle.eql_digest.proofs.Taking.{with_bytes_append}
 use Rattle.eql_values.specs.declared.item.Item.{Item}
 use Rattle.eql_values.specs.declared.cut.Counts.{Counts}
 use Rattle.eql_values.specs.declared.cut.FirstBad.{FirstBad}
@@ -18,7 +21,7 @@ use Rattle.eql_laws.proofs.Kept.{accepted_split, best_from_goes_on}
 use Rattle.eql_laws.proofs.CountsOn.{counts_step_on}
 use Rattle.eql_laws.proofs.LineLemmas.{numbered_go_on}
 use Rattle.eql_laws.proofs.BelowLemmas.{sorted_with_more}
-use Rattle.eql_lane.specs.Judging.{got_on, best_got, late_got, counts_got, held_got}
+use Rattle.eql_lane.specs.Judging.{best_got, late_got, counts_got, held_got, kept_on, kept_of, cut_with}
 use Rattle.eql_lane.specs.Lanes.{Setting, lines_on, read_on}
 use Rattle.eql_lane.proofs.FeedLines.{length_numbered, ends_before}
 
@@ -86,14 +89,19 @@ one_counts slack best counts at (got.Item item) =
     by_late true = λ i. record { lines = counts.lines + 1; accepted = none counts.accepted i; late = counts.late + 1; rejected = none counts.rejected i; first = same counts.first i }
     by_late false = λ i. record { lines = counts.lines + 1; accepted = counts.accepted + 1; late = none counts.late i; rejected = none counts.rejected i; first = same counts.first i }
 
+-- what is kept once a line of so many bytes was read too, with which the bytes that were read have this digest
+abbrev pub got_on : Option ℤ → LaneCut → LineGot → (width : ℕ) → Digest → LaneCut
+got_on slack cut g width digest = cut_with digest (kept_on (kept_of slack cut) g width)
+
 -- reading one line on
-pub line_is : (set : Setting) (cut : LaneCut) (line more : List ℕ) (width : ℕ) → lines_of more ≡ line ∷ [] → length more ≡ width
-    → read_on set cut more ≡ got_on set.slack cut (set.reads set.shard (1 + cut.counts.lines) line) width
-line_is set cut line more width one wide =
-    (λ i. lines_on set cut (one i) (wide i))
+pub line_is : (set : Setting) (cut : LaneCut) (line more : List ℕ) (width : ℕ) (digest : Digest) → lines_of more ≡ line ∷ [] → length more ≡ width → digest ≡ with_bytes cut.digest more
+    → read_on set cut more ≡ got_on set.slack cut (set.reads set.shard (1 + cut.counts.lines) line) width digest
+line_is set cut line more width digest one wide same =
+    (λ i. lines_on set cut (one i) more)
     ∙ (λ i. let g : LineGot = set.reads set.shard (1 + cut.counts.lines) line in
     record {
-      offset = cut.offset + width;
+      offset = cut.offset + wide i;
+      digest = sym same i;
       closed = cut.closed;
       best = one_best cut.best cut.offset g i;
       counts = one_counts set.slack cut.best cut.counts cut.offset g i;
@@ -132,6 +140,7 @@ module _ (set : Setting) (cut : LaneCut) (b c : List ℕ) (ends : IsTrue (ends_l
   read_both_on =
       (λ i. record {
         offset = sums cut.offset (length b) (length c) (length (b ++ c)) (length-append b c) i;
+        digest = sym (with_bytes_append cut.digest b c) i;
         closed = cut.closed;
         best = sym (ap (best_from cut.best) read_both ∙ best_from_goes_on cut.best xs ys) i;
         counts = sym (counts_step_on set.reads set.slack set.shard cut.best cut.counts one two) i;
@@ -142,6 +151,7 @@ module _ (set : Setting) (cut : LaneCut) (b c : List ℕ) (ends : IsTrue (ends_l
       ∙ (λ i. let next : List Line = sym both i in
       record {
         offset = cut.offset + length (b ++ c);
+        digest = with_bytes cut.digest (b ++ c);
         closed = cut.closed;
         best = best_from cut.best (readable set.reads set.shard next);
         counts = counts_from set.reads set.slack set.shard cut.best cut.counts next;

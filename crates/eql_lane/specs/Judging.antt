@@ -1,5 +1,6 @@
 -- What one line does to what is kept of a shard.
 use Rattle.std.specs.Prelude.{◌≡◌, ◌≤◌, ◌+◌, ℕ, ℤ, Bool, false, if◌then◌else◌, List, [], ◌∷◌, ◌++◌, Option, Some, IfSome, length, All}
+use Rattle.eql_digest.specs.declared.digest.Digest.{Digest}
 use Rattle.eql_values.specs.declared.item.Item.{Item}
 use Rattle.eql_values.specs.declared.cut.Counts.{Counts}
 use Rattle.eql_values.specs.declared.cut.LaneCut.{LaneCut}
@@ -37,20 +38,33 @@ held_got late at got.Blank = []
 held_got late at (got.Bad reason) = []
 held_got late at (got.Item item) = if late then [] else placed_at at item ∷ []
 
--- what is kept once a line of so many bytes with its line end, which gives this, was read too
-abbrev pub got_on : Option ℤ → LaneCut → LineGot → (width : ℕ) → LaneCut
-got_on slack cut got width = record {
-  offset = cut.offset + width;
-  closed = cut.closed;
-  best = best_got cut.best got;
-  counts = counts_got cut.counts (late_got slack cut.best got) got;
-  items = sorted_items (cut.items ++ held_got (late_got slack cut.best got) cut.offset got);
-}
-
--- what is kept of a shard, and the slack by which its events are judged
+-- what is kept of a shard but for the digest, and the slack by which its events are judged
 pub record KeptView : Type 0 where
   pub slack : Option ℤ
-  pub cut : LaneCut
+  pub offset : ℕ
+  pub closed : Bool
+  pub best : Option ℤ
+  pub counts : Counts
+  pub items : List Item
+
+-- what is kept once a line of so many bytes with its line end, which gives this, was read too
+abbrev pub kept_on : KeptView → LineGot → (width : ℕ) → KeptView
+kept_on kept got width = record {
+  slack = kept.slack;
+  offset = kept.offset + width;
+  closed = kept.closed;
+  best = best_got kept.best got;
+  counts = counts_got kept.counts (late_got kept.slack kept.best got) got;
+  items = sorted_items (kept.items ++ held_got (late_got kept.slack kept.best got) kept.offset got);
+}
+
+-- what a cut keeps of a shard, of which the bytes that were read have this digest
+abbrev pub cut_with : Digest → KeptView → LaneCut
+cut_with digest kept = record { offset = kept.offset; digest = digest; closed = kept.closed; best = kept.best; counts = kept.counts; items = kept.items }
+
+-- of what a cut keeps, all but the digest
+abbrev pub kept_of : Option ℤ → LaneCut → KeptView
+kept_of slack cut = record { slack = slack; offset = cut.offset; closed = cut.closed; best = cut.best; counts = cut.counts; items = cut.items }
 
 -- an event that a line gives is of this line, and has a time within the bound
 abbrev pub IsGotAt : (line : ℕ) → LineGot → Type 0

@@ -11,7 +11,7 @@ use Rattle.eql_laws.specs.Lateness.{IsAtMost}
 use Rattle.eql_laws.specs.Places.{ReadTo, IsPlace, whole, low_at}
 use Rattle.eql_lane.specs.declared.ops.LaneReply.{LaneReply}
 use Rattle.eql_values.specs.declared.order.Mark.TheVariants.{Start}
-use Rattle.eql_lane.specs.Noting.{line_place, placed_cut, unplaced_cut, whole_lines, IsWholeLine}
+use Rattle.eql_lane.specs.Noting.{line_place, retraced_cut, untraced_cut, placed_cut, unplaced_cut, whole_lines, IsWholeLine}
 use Rattle.eql_lane.specs.Lanes.{Setting, LaneState, IsFeedStep, Takes, low, lesser, greater, fresh_cut, beginning_lane}
 
 -- the lane read its text up to a place, keeps what isn't below the mark, which is safe there, and handed out no further than the mark
@@ -46,7 +46,13 @@ CutsBegin = (set : Setting) (mark : Mark) (place : ReadTo) (faults : ℕ) → Is
 abbrev pub FreshIs : Type 0
 FreshIs = (set : Setting) (text : List ℕ) (faults : ℕ) → LaneIs set text Start (beginning_lane fresh_cut faults)
 
--- and so is one that is lifted, where its cut is what a cut keeps of the text there but for the places of its events
+-- and so is one that is retraced, where its cut is what a cut keeps of the text there but for the digest
+abbrev pub RetracedIs : Type 0
+RetracedIs = (set : Setting) (mark : Mark) (place : ReadTo) (faults : ℕ) (cut : LaneCut) → IsPlace place → IsAtMost mark (low_at set.reads set.slack set.shard place)
+    → untraced_cut cut ≡ untraced_cut (lane_at set.reads set.slack set.shard mark place)
+    → LaneIs set (whole place) mark (beginning_lane (retraced_cut place.first cut) faults)
+
+-- and so is one that is lifted, where its cut is what a cut keeps of the text there but for the digest and the places of its events
 abbrev pub LiftedIs : Type 0
 LiftedIs = (set : Setting) (mark : Mark) (place : ReadTo) (faults : ℕ) (cut : LaneCut) → IsReading set.reads → IsPlace place → IsAtMost mark (low_at set.reads set.slack set.shard place)
     → unplaced_cut cut ≡ unplaced_cut (lane_at set.reads set.slack set.shard mark place)

@@ -1,6 +1,7 @@
 -- Lanes: what no step of a lane changes, their states, and their steps.
-use Rattle.std.specs.Prelude.{◌≡◌, ◌⊎◌, ◌≤◌, ◌<◌, ◌+◌, ℕ, ℤ, Bool, true, false, not, if◌then◌else◌, List, [], ◌++◌, length, drop, filter, Option, None, IfSome, IsTrue}
+use Rattle.std.specs.Prelude.{◌≡◌, ◌⊎◌, ◌≤◌, ◌<◌, ◌+◌, ℕ, ℤ, Bool, true, false, not, if◌then◌else◌, List, [], ◌++◌, length, take, drop, filter, Option, None, IfSome, IsTrue}
 use Rattle.std.specs.Ordering.{is_le}
+use Rattle.eql_digest.specs.Digests.{start as digest_of_none, with_bytes, IsDigestOf}
 use Rattle.eql_values.specs.declared.item.Item.{Item}
 use Rattle.eql_values.specs.declared.order.Mark.{Mark}
 use Rattle.eql_values.specs.declared.order.Mark.TheVariants.{Start}
@@ -34,7 +35,7 @@ pub record LaneState : Type 0 where
 
 -- a lane of which nothing was read
 abbrev pub fresh_cut : LaneCut
-fresh_cut = record { offset = 0; closed = false; best = None; counts = record { lines = 0; accepted = 0; late = 0; rejected = 0; first = None }; items = [] }
+fresh_cut = record { offset = 0; digest = digest_of_none; closed = false; best = None; counts = record { lines = 0; accepted = 0; late = 0; rejected = 0; first = None }; items = [] }
 
 -- a lane that begins with what a cut keeps of it: what was read of its source was taken, and nothing was handed out
 abbrev pub beginning_lane : LaneCut → (faults : ℕ) → LaneState
@@ -55,12 +56,13 @@ lesser a b = if is_le (mark_cmp a b) then a else b
 abbrev pub greater : Mark → Mark → Mark
 greater a b = if is_le (mark_cmp a b) then b else a
 
--- what is kept once these lines, of so many bytes with their line ends, were read too
-abbrev pub lines_on : Setting → LaneCut → List (List ℕ) → (width : ℕ) → LaneCut
-lines_on set cut lines width =
+-- what is kept once these lines, which are these bytes with their line ends, were read too
+abbrev pub lines_on : Setting → LaneCut → List (List ℕ) → List ℕ → LaneCut
+lines_on set cut lines bytes =
     let next : List Line = numbered_lines (1 + cut.counts.lines) cut.offset lines in
     record {
-      offset = cut.offset + width;
+      offset = cut.offset + length bytes;
+      digest = with_bytes cut.digest bytes;
       closed = cut.closed;
       best = best_from cut.best (readable set.reads set.shard next);
       counts = counts_from set.reads set.slack set.shard cut.best cut.counts next;
@@ -69,7 +71,7 @@ lines_on set cut lines width =
 
 -- what is kept once these bytes were read too
 abbrev pub read_on : Setting → LaneCut → List ℕ → LaneCut
-read_on set cut more = lines_on set cut (lines_of more) (length more)
+read_on set cut more = lines_on set cut (lines_of more) more
 
 -- the text goes on with these bytes at this place, and is at its end behind them where the lane is closed there
 pub record GoesOn (text : List ℕ) (at : ℕ) (more : List ℕ) (closed : Bool) : Type 0 where
@@ -77,8 +79,13 @@ pub record GoesOn (text : List ℕ) (at : ℕ) (more : List ℕ) (closed : Bool)
   pub parts : drop at text ≡ more ++ rest
   pub at_end : closed ≡ true → rest ≡ []
 
--- what holds of each state: the held items stand in order, no more was read than was taken, no more was taken than a shard may have or there is, and no more lines were read than a shard may have
+-- the digest is that of the text's bytes before the offset, where the text is told
+abbrev pub HasDigest : Option (List ℕ) → LaneCut → Type 0
+HasDigest text cut = IfSome text (λ t. IsDigestOf cut.digest (take cut.offset t))
+
+-- what holds of each state: the held items stand in order, the digest is that of the bytes that were read, no more was read than was taken, no more was taken than a shard may have or there is, and no more lines were read than a shard may have
 pub record IsState (set : Setting) (x : LaneState) : Type 0 where
+  pub digest : HasDigest set.text x.cut
   pub offset : x.cut.offset ≤ x.taken
   pub bytes : x.taken ≤ greatest_bytes
   pub within : IfSome set.text (λ text. x.taken ≤ length text)

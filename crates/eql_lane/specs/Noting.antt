@@ -1,6 +1,7 @@
 -- Wanted lines, and their places as they are noted in bytes that are passed over.
 use Rattle.std.specs.Prelude.{◌≡◌, ◌⊎◌, ◌≤◌, ◌<◌, ◌+◌, ◌-◌, ◌==◌, ◌&&◌, nat_lt, ℕ, Bool, false, if◌then◌else◌, List, [], ◌∷◌, ◌++◌, Option, Some, None, map, length, All, Contains, IsTrue, codes, refl}
 use Rattle.std.specs.List.{slice_get, AllPairs}
+use Rattle.eql_digest.specs.Digests.{start, with_bytes}
 use Rattle.eql_values.specs.declared.item.Item.{Item}
 use Rattle.eql_values.specs.declared.cut.LaneCut.{LaneCut}
 use Rattle.eql_values.specs.Accepted.{placed_at}
@@ -29,13 +30,21 @@ two_places = refl
 abbrev pub placed_item : List ℕ → Item → Item
 placed_item text item = placed_at (line_place text item.order.line) item
 
--- what is kept of a lane, with each event at the place of its line in a text
-abbrev pub placed_cut : List ℕ → LaneCut → LaneCut
-placed_cut text cut = record cut { items = map (placed_item text) cut.items }
+-- what is kept of a lane, with the digest of a text
+abbrev pub retraced_cut : List ℕ → LaneCut → LaneCut
+retraced_cut text cut = record cut { digest = with_bytes start text }
 
--- what is kept of a lane, with no places
+-- what is kept of a lane, with the digest of no bytes
+abbrev pub untraced_cut : LaneCut → LaneCut
+untraced_cut cut = record cut { digest = start }
+
+-- what is kept of a lane, with the digest of a text, and with each event at the place of its line in it
+abbrev pub placed_cut : List ℕ → LaneCut → LaneCut
+placed_cut text cut = record (retraced_cut text cut) { items = map (placed_item text) cut.items }
+
+-- what is kept of a lane, with the digest of no bytes and with no places
 abbrev pub unplaced_cut : LaneCut → LaneCut
-unplaced_cut cut = record cut { items = map (placed_at 0) cut.items }
+unplaced_cut cut = record (untraced_cut cut) { items = map (placed_at 0) cut.items }
 
 -- the place of a line by a list of places, or 0 where it has none
 abbrev pub place_noted : List (ℕ × ℕ) → ℕ → ℕ

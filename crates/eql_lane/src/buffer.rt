@@ -1,11 +1,13 @@
-//! The bytes that were taken of a source and aren't read as lines yet. Of a line that is too long
-//! only its length is kept, and whether it is blank.
+//! The bytes that were taken of a source and aren't read as lines yet, and the digest of those that
+//! were. Of a line that is too long only its length is kept, whether it is blank, and its digest.
 ghost use Rattle.std.specs.Prelude.{◌≡◌, ◌≢◌, ◌≤◌, ◌<◌, ◌+◌, ◌==◌, ◌++◌, ◌^◌, ℕ, List, [], None, Ok, Err, IfOk, IfErr, IfSome, true, false, IsOk, OnOk, length, take, drop, vec_len};
+ghost use Rattle.eql_digest.specs.Digests.{with_bytes};
 ghost use Rattle.eql_values.specs.Reading.{is_blank};
 ghost use Rattle.eql_outside.specs.Outside.{Rose};
 ghost use Rattle.eql_outside.specs.Unfailing.{IsUnfailing};
-ghost use Rattle.eql_lane.specs.Buffers.{byte_count, dropped_part, seen_more, HasFeedAt, IsFront, Stands, FillsBuffer, IsOneLine};
+ghost use Rattle.eql_lane.specs.Buffers.{byte_count, dropped_part, seen_more, HasFeedAt, IsFront, IsOfBytes, Stands, FillsBuffer, IsOneLine};
 
+use eql_digest::Digest;
 use eql_outside::{Source, unfailing_stays};
 use eql_values::{LineGot, LineReader, Memory, Reason};
 use memchr::memchr;
@@ -25,31 +27,40 @@ pub(crate) struct LongLine {
     pub(crate) bytes: u64,
     /// Whether all of them are spaces, tabs and carriage returns.
     pub(crate) blank: bool,
+    /// The digest of all bytes up to here: of those that were read, and of these behind them.
+    pub(crate) digest: Digest,
 }
 
 /// Bytes that aren't read as lines yet.
 #[derive(Drop)]
 pub(crate) struct LineBuffer {
-    // The bytes, behind those that were read.
+    // The bytes: those that were read and weren't dropped yet, and those that aren't read.
     bytes: Vec<u8>,
-    // How many of them were read.
+    // How many of them were read: none while the line at hand is too long.
     start: usize,
     // How many of the others are known to have no line feed, so that none is searched twice.
     searched: usize,
     // What was dropped of the line at hand.
     long: Option<LongLine>,
+    // The digest of the bytes that were read and dropped. Those that are dropped together come to
+    // it as one piece.
+    digest: Digest,
 }
 
 impl Model for LineBuffer {
-    ghost use Rattle.std.specs.Prelude.{◌≤◌, ◌+◌, take, drop, vec_len};
-    ghost use Rattle.eql_lane.specs.Buffers.{Pending, IsOneLine};
+    ghost use Rattle.std.specs.Prelude.{take, drop};
+    ghost use Rattle.eql_digest.specs.Digests.{with_bytes};
+    ghost use Rattle.eql_lane.specs.Buffers.{Pending, IsBuffer};
 
     ghost Value = { Pending };
 
-    ghost view = { λ b. record { long = b.long; unread = drop b.start b.bytes.items } };
+    ghost view = { λ b. record {
+      long = b.long;
+      unread = drop b.start b.bytes.items;
+      digest = with_bytes b.digest (take b.start b.bytes.items);
+    } };
 
-    ghost invariant = { λ b. (b.start + b.searched ≤ vec_len b.bytes)
-        × IsOneLine (take b.searched (drop b.start b.bytes.items)) };
+    ghost invariant = { λ b. IsBuffer b.bytes.items b.start b.searched b.long b.digest };
 }
 
 /// Why no bytes were taken.
@@ -70,27 +81,28 @@ fn are_blank(bytes: &[u8]) -> bool
         .all(|byte| *byte == 32 || *byte == 9 || *byte == 13)
 }
 
-// What was dropped of a line.
-fn seen_of(long: Option<LongLine>) -> LongLine
-    ensures { result ≡ dropped_part long }
+// The digest of these bytes behind others.
+fn digest_with(digest: Digest, bytes: &[u8]) -> Digest
+    requires { IsOfBytes digest }
+    ensures digest { result ≡ with_bytes digest bytes.now }
+    ensures of_bytes { IsOfBytes result }
 {
-    match long {
-        None => LongLine {
-            bytes: 0,
-            blank: true,
-        },
-        Some(line) => line,
-    }
+    let mut digest = digest;
+    digest.add(bytes);
+    digest
 }
 
 // A line that goes on with these bytes.
 fn goes_on(line: LongLine, more: &[u8]) -> LongLine
-    requires { line.bytes + length more.now < 2 ^ 63 }
-    ensures { result ≡ seen_more line more.now }
+    requires short { line.bytes + length more.now < 2 ^ 63 }
+    requires of_bytes { IsOfBytes line.digest }
+    ensures line { result ≡ seen_more line more.now }
+    ensures of_bytes { IsOfBytes result.digest }
 {
     LongLine {
         bytes: line.bytes + more.len() as u64,
         blank: line.blank && are_blank(more),
+        digest: digest_with(line.digest, more),
     }
 }
 
@@ -103,16 +115,40 @@ pub(crate) fn feed_in(bytes: &[u8]) -> Option<usize>
 }
 
 impl LineBuffer {
-    /// No bytes.
-    pub(crate) fn new(alloc: Global) -> LineBuffer
-        ensures bytes { result.unread ≡ [] }
-        ensures long { result.long ≡ None }
+    /// No bytes, behind those of this digest.
+    pub(crate) fn new(alloc: Global, digest: Digest) -> LineBuffer
+        requires { IsOfBytes digest }
+        ensures { result ≡ record { long = None; unread = []; digest = digest } }
     {
         LineBuffer {
             bytes: Vec::new(alloc),
             start: 0,
             searched: 0,
             long: None,
+            digest,
+        }
+    }
+
+    /// The digest of the bytes that were read.
+    pub(crate) fn digest(&self) -> Digest
+        ensures digest { result ≡ self.now.digest }
+        ensures of_bytes { IsOfBytes result }
+    {
+        digest_with(self.digest, &self.bytes[..self.start])
+    }
+
+    // What was dropped of the line at hand.
+    fn dropped(&self) -> LongLine
+        ensures line { result ≡ dropped_part self.now }
+        ensures of_bytes { IsOfBytes result.digest }
+    {
+        match self.long {
+            None => LongLine {
+                bytes: 0,
+                blank: true,
+                digest: self.digest(),
+            },
+            Some(line) => line,
         }
     }
 
@@ -187,20 +223,41 @@ impl LineBuffer {
     pub(crate) fn width(&self, end: usize) -> u64
         requires short { byte_count self.now < 2 ^ 63 }
         requires within { end ≤ length self.now.unread }
-        ensures { result ≡ (dropped_part self.now.long).bytes + end }
+        ensures { result ≡ (dropped_part self.now).bytes + end }
     {
-        seen_of(self.long).bytes + end as u64
+        match self.long {
+            None => end as u64,
+            Some(line) => line.bytes + end as u64,
+        }
     }
 
-    /// Drops the line at hand, with so many of the kept bytes.
+    // Counts what was dropped of the line at hand among the bytes that were read.
+    fn end_long(&mut self)
+        ensures { self.new ≡ record {
+          long = None;
+          unread = self.old.unread;
+          digest = (dropped_part self.old).digest;
+        } }
+    {
+        let Some(line) = self.long else {
+            return;
+        };
+        self.digest = line.digest;
+        self.long = None;
+    }
+
+    /// Counts the line at hand, with so many of the kept bytes, among those that were read.
     pub(crate) fn pass(&mut self, count: usize)
         requires { count ≤ length self.old.unread }
-        ensures rest { self.new.unread ≡ drop count self.old.unread }
-        ensures long { self.new.long ≡ None }
+        ensures { self.new ≡ record {
+          long = None;
+          unread = drop count self.old.unread;
+          digest = with_bytes (dropped_part self.old).digest (take count self.old.unread);
+        } }
     {
+        self.end_long();
         self.start += count;
         self.searched = 0;
-        self.long = None;
     }
 
     // Drops the bytes that were read. No byte is moved twice, since those that are moved stand at
@@ -211,24 +268,29 @@ impl LineBuffer {
         if self.start == 0 {
             return;
         }
+        self.digest = self.digest();
         drop(self.bytes.drain(..self.start));
         self.start = 0;
     }
 
-    /// Keeps no more than the length of a line that is too long. No line feed is kept before.
+    /// Keeps no byte of a line that is too long. No line feed is kept before.
     pub(crate) fn shorten(&mut self)
         requires one { IsOneLine self.old.unread }
         requires short { byte_count self.old < 2 ^ 63 }
         ensures stands { (p : List ℕ) → Stands self.old p → Stands self.new p }
         ensures few { length self.new.unread ≤ 1048576 }
         ensures one { IsOneLine self.new.unread }
+        ensures digest { self.new.digest ≡ self.old.digest }
     {
         if self.count() <= LINE_BYTES {
             return;
         }
-        self.long = Some(goes_on(seen_of(self.long), self.rest()));
-        self.start = self.bytes.len();
+        let line = goes_on(self.dropped(), self.rest());
+        self.digest = self.digest();
+        self.bytes.clear();
+        self.start = 0;
         self.searched = 0;
+        self.long = Some(line);
     }
 
     // Takes the next bytes of a source, at most as many as the piece has, and keeps them.
@@ -245,6 +307,7 @@ impl LineBuffer {
         ensures kept { IfErr result (λ _. (self.new.unread ≡ self.old.unread)
             × (S.left source.new ≡ S.left source.old)) }
         ensures long { self.new.long ≡ self.old.long }
+        ensures digest { self.new.digest ≡ self.old.digest }
         ensures cause { result ≡ Err FillRefused.Failed
             → Rose (S.fault_count source.old) (S.fault_count source.new) }
         ensures steady { result ≢ Err FillRefused.Failed
@@ -285,6 +348,7 @@ impl LineBuffer {
         ensures kept { IfErr result (λ _. (self.new.unread ≡ self.old.unread)
             × (S.left source.new ≡ S.left source.old)) }
         ensures long { self.new.long ≡ self.old.long }
+        ensures digest { self.new.digest ≡ self.old.digest }
         ensures cause { result ≡ Err FillRefused.Failed
             → Rose (S.fault_count source.old) (S.fault_count source.new) }
         ensures steady { result ≢ Err FillRefused.Failed

@@ -1,4 +1,4 @@
-//! What is kept of the lines that were read of a shard.
+//! What is kept of the lines that were read of a shard, but for the digest of their bytes.
 ghost use Rattle.std.specs.Prelude.{◌∷◌, ◌≡◌, ◌≤◌, ◌<◌, ◌+◌, ◌++◌, ◌^◌, ◌≤ℤ◌, pos, true, false, ℕ, List, [], Ok, Err, IfOk, IfSome, All, OnErr, OnOk, None, filter, not, length, map, take, drop, vec_len, vec_capacity};
 ghost use Rattle.eql_values.specs.declared.item.Item.{Item as Event};
 ghost use Rattle.eql_values.specs.Accepted.{sorted_items};
@@ -10,9 +10,10 @@ ghost use Rattle.eql_lane.specs.Slacks.{IsSlack};
 ghost use Rattle.eql_lane.specs.Noting.{LinesAscend, place_noted, item_noted};
 ghost use Rattle.eql_laws.specs.Counting.{first_or, greatest_lines, greatest_bytes};
 ghost use Rattle.eql_laws.specs.Lateness.{larger};
-ghost use Rattle.eql_lane.specs.Judging.{best_got, late_got, counts_got, held_got, got_on, KeptView, IsGotAt, CountsHold};
+ghost use Rattle.eql_lane.specs.Judging.{best_got, late_got, counts_got, held_got, kept_on, kept_of, cut_with, KeptView, IsGotAt, CountsHold};
 
 use crate::held::Held;
+use eql_digest::Digest;
 use eql_values::{Counts, FirstBad, Item, Items, LaneCut, LineGot, Mark, Memory, Places, Reason};
 use std::alloc::Global;
 use std::marker::Model;
@@ -41,13 +42,11 @@ impl Model for Kept {
 
     ghost view = { λ k. record {
       slack = k.slack;
-      cut = record {
-        offset = k.offset;
-        closed = k.closed;
-        best = k.best;
-        counts = k.counts;
-        items = k.held;
-      };
+      offset = k.offset;
+      closed = k.closed;
+      best = k.best;
+      counts = k.counts;
+      items = k.held;
     } };
 
     ghost invariant = { λ k. IsKept k.slack k.best k.counts k.held };
@@ -192,6 +191,7 @@ pub(crate) fn placed(cut: LaneCut, places: &Places) -> LaneCut
     set_places(&mut items, places.items());
     LaneCut {
         offset: cut.offset,
+        digest: cut.digest,
         closed: cut.closed,
         best: cut.best,
         counts: cut.counts,
@@ -203,7 +203,7 @@ impl Kept {
     /// Nothing was read.
     pub(crate) fn new(alloc: Global, slack: Option<i128>) -> Kept
         requires slack { IsSlack slack }
-        ensures { result ≡ record { slack = slack; cut = fresh_cut } }
+        ensures { result ≡ kept_of slack fresh_cut }
     {
         Kept {
             slack,
@@ -225,7 +225,7 @@ impl Kept {
     pub(crate) fn of(alloc: Global, slack: Option<i128>, cut: LaneCut) -> Kept
         requires slack { IsSlack slack }
         requires cut { MayBegin cut }
-        ensures { result ≡ record { slack = slack; cut = cut } }
+        ensures { result ≡ kept_of slack cut }
     {
         Kept {
             slack,
@@ -240,10 +240,10 @@ impl Kept {
     /// Reads on by a line of so many bytes with its line end, which gives this. After want of memory
     /// nothing has changed.
     pub(crate) fn add(&mut self, got: LineGot, width: u64) -> Result<(), Memory>
-        requires lines { self.old.cut.counts.lines < greatest_lines }
-        requires bytes { self.old.cut.offset + width ≤ greatest_bytes }
-        requires got { IsGotAt (self.old.cut.counts.lines + 1) got }
-        ensures read { OnOk result (self.new.cut ≡ got_on self.old.slack self.old.cut got width) }
+        requires lines { self.old.counts.lines < greatest_lines }
+        requires bytes { self.old.offset + width ≤ greatest_bytes }
+        requires got { IsGotAt (self.old.counts.lines + 1) got }
+        ensures read { OnOk result (self.new ≡ kept_on self.old got width) }
         ensures slack { self.new.slack ≡ self.old.slack }
         ensures unchanged { OnErr result (self.new ≡ self.old) }
     {
@@ -260,36 +260,35 @@ impl Kept {
 
     /// The bytes of the lines that were read.
     pub(crate) fn offset(&self) -> u64
-        ensures { result ≡ self.now.cut.offset }
+        ensures { result ≡ self.now.offset }
     {
         self.offset
     }
 
     /// How many lines were read.
     pub(crate) fn lines(&self) -> u32
-        ensures { result ≡ self.now.cut.counts.lines }
+        ensures { result ≡ self.now.counts.lines }
     {
         self.counts.lines
     }
 
     /// The source was read to its end.
     pub(crate) fn close(&mut self)
-        ensures cut { self.new.cut ≡ record self.old.cut { closed = true } }
-        ensures slack { self.new.slack ≡ self.old.slack }
+        ensures { self.new ≡ record self.old { closed = true } }
     {
         self.closed = true;
     }
 
     /// What became of the lines that were read.
     pub(crate) fn counts(&self) -> Counts
-        ensures { result ≡ self.now.cut.counts }
+        ensures { result ≡ self.now.counts }
     {
         self.counts
     }
 
     /// The low: no further event can come below it.
     pub(crate) fn low(&self) -> Mark
-        ensures { result ≡ low_of self.now.cut.closed self.now.slack self.now.cut.best }
+        ensures { result ≡ low_of self.now.closed self.now.slack self.now.best }
     {
         if self.closed {
             return Mark::End;
@@ -303,17 +302,16 @@ impl Kept {
     /// How many held events lie below the low.
     pub(crate) fn ready(&self) -> u32
         ensures { result ≡ length (filter (is_below
-            (low_of self.now.cut.closed self.now.slack self.now.cut.best)) self.now.cut.items) }
+            (low_of self.now.closed self.now.slack self.now.best)) self.now.items) }
     {
         self.held.count_below(self.low()) as u32
     }
 
     /// Takes out the held events below the mark, in order. After want of memory nothing has changed.
     pub(crate) fn take_below(&mut self, alloc: Global, mark: Mark) -> Result<Items, Memory>
-        ensures items { IfOk result (λ items. items ≡ filter (is_below mark) self.old.cut.items) }
-        ensures kept { OnOk result (self.new.cut ≡ record self.old.cut
-            { items = filter (λ item. not (is_below mark item)) self.old.cut.items }) }
-        ensures slack { self.new.slack ≡ self.old.slack }
+        ensures items { IfOk result (λ items. items ≡ filter (is_below mark) self.old.items) }
+        ensures kept { OnOk result (self.new ≡ record self.old
+            { items = filter (λ item. not (is_below mark item)) self.old.items }) }
         ensures unchanged { OnErr result (self.new ≡ self.old) }
     {
         self.held.ordered();
@@ -325,26 +323,27 @@ impl Kept {
 
     /// The held events stand in order.
     pub(crate) fn ordered(&self)
-        ensures { sorted_items self.now.cut.items ≡ self.now.cut.items }
+        ensures { sorted_items self.now.items ≡ self.now.items }
     {
         self.held.ordered();
     }
 
     /// Whether the source was read to its end.
     pub(crate) fn is_closed(&self) -> bool
-        ensures { result ≡ self.now.cut.closed }
+        ensures { result ≡ self.now.closed }
     {
         self.closed
     }
 
-    /// What a cut keeps: a copy of it all.
-    pub(crate) fn snap(&self, alloc: Global) -> Result<LaneCut, Memory>
-        ensures { IfOk result (λ cut. cut ≡ self.now.cut) }
+    /// What a cut keeps, with the digest of the bytes that were read: a copy of it all.
+    pub(crate) fn snap(&self, alloc: Global, digest: Digest) -> Result<LaneCut, Memory>
+        ensures { IfOk result (λ cut. cut ≡ cut_with digest self.now) }
     {
         let held = self.held.clone()?;
         let items = held.into_items(alloc)?;
         Ok(LaneCut {
             offset: self.offset,
+            digest,
             closed: self.closed,
             best: self.best,
             counts: self.counts,

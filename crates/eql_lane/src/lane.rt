@@ -6,18 +6,20 @@ ghost use Rattle.eql_laws.specs.Counting.{greatest_lines, greatest_bytes};
 ghost use Rattle.eql_lane.specs.Lanes.{Setting, LaneState, IsState, lesser, greater, ready, IsTakeStep, IsSnapStep, LaneAllows, beginning_lane};
 ghost use Rattle.eql_lane.specs.Views.{LaneView, IsTextOf, setting_of, IsSameLane};
 ghost use Rattle.eql_lane.specs.Slacks.{IsSlack, nanos_of, greatest_slack_ms};
-ghost use Rattle.eql_lane.specs.Buffers.{dropped_part, byte_count, HasFeedAt, IsFront, HasFront, IsOneLine};
-ghost use Rattle.eql_lane.specs.Judging.{got_on};
+ghost use Rattle.eql_lane.specs.Buffers.{dropped_part, byte_count, HasFeedAt, IsFront, HasFront, IsOfBytes, IsOneLine};
+ghost use Rattle.eql_digest.specs.Digests.{with_bytes, IsDigestOf};
+ghost use Rattle.eql_lane.specs.Judging.{kept_on, cut_with};
 ghost use Rattle.eql_lane.specs.Plays.{Plays, DidNotFail};
-ghost use Rattle.eql_lane.specs.Starts.{MayStart, MayBegin, MayLift, Begins, Lifts, BeginsAs, IsNotMade, cut_of, wanted_of};
+ghost use Rattle.eql_lane.specs.Starts.{MayStart, MayBegin, MayLift, Retraces, Lifts, BeginsAs, IsRefused, IsNotMade};
 ghost use Rattle.eql_lane.specs.Feeding.{Steps, FeedsView, TookTo, line_step as step_by_line, end_step as step_by_end};
 
 use crate::buffer::{FillRefused, LineBuffer, PIECE};
 use crate::kept::{Kept, placed};
 use crate::make::{LaneRefused, LaneStart};
 use crate::ops::{LaneOp, LaneReply, ShardLimit};
-use crate::pass::seek;
+use crate::pass::{Found, seek};
 use crate::step::Step;
+use eql_digest::Digest;
 use eql_outside::{Source, Supply};
 use eql_values::{Counts, LaneCut, LineReader, Lines, Mark, Memory, Places};
 use std::alloc::Global;
@@ -40,6 +42,7 @@ pub struct Lane<S: Source, L: LineReader> {
 
 impl<S: Source, L: LineReader> Model for Lane<S, L> {
     ghost use Rattle.std.specs.Prelude.{None};
+    ghost use Rattle.eql_lane.specs.Judging.{cut_with};
     ghost use Rattle.eql_lane.specs.Views.{LaneView, IsLane};
 
     ghost Value = { LaneView S L };
@@ -52,14 +55,15 @@ impl<S: Source, L: LineReader> Model for Lane<S, L> {
       buffer = l.buffer;
       places = l.places;
       state = record {
-        cut = l.kept.cut;
+        cut = cut_with l.buffer.digest l.kept;
         taken = l.taken;
         given = l.given;
         faults = S.fault_count l.source;
       };
     } };
 
-    ghost invariant = { λ l. IsLane None (S.left l.source) l.buffer l.kept.cut l.taken };
+    ghost invariant = { λ l. IsLane None (S.left l.source) l.buffer
+        (cut_with l.buffer.digest l.kept) l.taken };
 }
 
 /// How many lines a shard may have.
@@ -79,6 +83,18 @@ fn no_places(alloc: Global) -> Places
     ensures { result ≡ [] }
 {
     Places::of(Vec::new(alloc))
+}
+
+// What is found where nothing is passed over.
+fn nothing_found(alloc: Global) -> Found
+    ensures places { result.places ≡ [] }
+    ensures digest { IsDigestOf result.digest [] }
+    ensures of_bytes { IsOfBytes result.digest }
+{
+    Found {
+        places: no_places(alloc),
+        digest: Digest::new(),
+    }
 }
 
 // A slack in nanoseconds.
@@ -108,18 +124,21 @@ fn read_line<L: LineReader>(
     requires short { byte_count buffer.old < 2 ^ 63 }
     requires feed { feed ≤ 1 }
     requires within { end + feed ≤ length buffer.old.unread }
-    requires lines { kept.old.cut.counts.lines < greatest_lines }
-    requires bytes { kept.old.cut.offset + ((dropped_part buffer.old.long).bytes + end + feed)
+    requires lines { kept.old.counts.lines < greatest_lines }
+    requires bytes { kept.old.offset + ((dropped_part buffer.old).bytes + end + feed)
         ≤ greatest_bytes }
-    ensures read { (front : List ℕ) → IsFront buffer.old.long front → OnOk result (kept.new.cut
-        ≡ got_on kept.old.slack kept.old.cut
-        (L.read_of reader.old shard (kept.old.cut.counts.lines + 1)
+    ensures read { (front : List ℕ) → IsFront buffer.old.long front
+        → OnOk result (kept.new ≡ kept_on kept.old
+        (L.read_of reader.old shard (kept.old.counts.lines + 1)
         (front ++ take end buffer.old.unread))
-        ((dropped_part buffer.old.long).bytes + end + feed)) }
+        ((dropped_part buffer.old).bytes + end + feed)) }
     ensures slack { kept.new.slack ≡ kept.old.slack }
-    ensures rest { OnOk result (buffer.new
-        ≡ record { long = None; unread = drop (end + feed) buffer.old.unread }) }
-    ensures unchanged { OnErr result ((kept.new.cut ≡ kept.old.cut) × (buffer.new ≡ buffer.old)) }
+    ensures rest { OnOk result (buffer.new ≡ record {
+      long = None;
+      unread = drop (end + feed) buffer.old.unread;
+      digest = with_bytes (dropped_part buffer.old).digest (take (end + feed) buffer.old.unread);
+    }) }
+    ensures unchanged { OnErr result ((kept.new ≡ kept.old) × (buffer.new ≡ buffer.old)) }
     ensures stays { L.read_of reader.new ≡ L.read_of reader.old }
 {
     let number = kept.lines() + 1;
@@ -140,18 +159,22 @@ fn finish<L: LineReader>(
 ) -> Result<bool, Memory>
     requires front { HasFront buffer.old.long }
     requires short { byte_count buffer.old < 2 ^ 63 }
-    requires lines { (kept.old.cut.counts.lines < greatest_lines) ⊎ (byte_count buffer.old ≡ 0) }
-    requires bytes { kept.old.cut.offset + byte_count buffer.old ≤ greatest_bytes }
+    requires lines { (kept.old.counts.lines < greatest_lines) ⊎ (byte_count buffer.old ≡ 0) }
+    requires bytes { kept.old.offset + byte_count buffer.old ≤ greatest_bytes }
     ensures none { result ≡ Ok false → (byte_count buffer.old ≡ 0)
-        × (kept.new.cut ≡ record kept.old.cut { closed = true }) × (buffer.new ≡ buffer.old) }
+        × (kept.new ≡ record kept.old { closed = true }) × (buffer.new ≡ buffer.old) }
     ensures last { result ≡ Ok true → (front : List ℕ) → IsFront buffer.old.long front
-        → kept.new.cut ≡ record (got_on kept.old.slack kept.old.cut
-        (L.read_of reader.old shard (kept.old.cut.counts.lines + 1) (front ++ buffer.old.unread))
+        → kept.new ≡ record (kept_on kept.old
+        (L.read_of reader.old shard (kept.old.counts.lines + 1) (front ++ buffer.old.unread))
         (byte_count buffer.old)) { closed = true } }
     ensures some { result ≡ Ok true → 0 < byte_count buffer.old }
-    ensures rest { result ≡ Ok true → buffer.new ≡ record { long = None; unread = [] } }
+    ensures rest { result ≡ Ok true → buffer.new ≡ record {
+      long = None;
+      unread = [];
+      digest = with_bytes (dropped_part buffer.old).digest buffer.old.unread;
+    } }
     ensures slack { kept.new.slack ≡ kept.old.slack }
-    ensures unchanged { OnErr result ((kept.new.cut ≡ kept.old.cut) × (buffer.new ≡ buffer.old)) }
+    ensures unchanged { OnErr result ((kept.new ≡ kept.old) × (buffer.new ≡ buffer.old)) }
     ensures stays { L.read_of reader.new ≡ L.read_of reader.old }
 {
     let count = buffer.rest().len();
@@ -399,7 +422,7 @@ impl<S: Source, L: LineReader> Lane<S, L> {
     fn snap(&self) -> LaneReply
         ensures { IsSnapStep self.now.state result self.now.state }
     {
-        match self.kept.snap(self.alloc) {
+        match self.kept.snap(self.alloc, self.buffer.digest()) {
             Err(_) => LaneReply::Memory { lines: 0 },
             Ok(cut) => LaneReply::Cut(cut),
         }
@@ -469,7 +492,7 @@ impl<S: Source, L: LineReader + Drop> Lane<S, L> {
         ensures made { IfOk result (λ lane. BeginsAs S.left S.lent_as S.fault_count
             source reader shard slack start lane) }
         ensures refused { IfErr result (λ refused. IsNotMade S.left S.lent_as S.fault_count
-            (cut_of start) (wanted_of start) source refused.0 refused.1) }
+            start source refused.0 refused.1) }
         ensures unfailing { IsUnfailing (S.fault_plan source)
             → IfOk result (λ lane. IsUnfailing (S.fault_plan lane.source))
             × IfErr result (λ refused. (refused.0 ≢ LaneRefused.Failed)
@@ -479,16 +502,24 @@ impl<S: Source, L: LineReader + Drop> Lane<S, L> {
         match start {
             LaneStart::Fresh => {
                 let kept = Kept::new(alloc, slack);
-                Ok(Lane::begin(alloc, source, reader, shard, kept, no_places(alloc)))
+                let found = nothing_found(alloc);
+                Ok(Lane::begin(alloc, source, reader, shard, kept, found))
             }
-            LaneStart::From(cut) => Lane::resume(alloc, source, reader, shard, slack, cut),
+            LaneStart::From(cut) => {
+                let known = Some(cut.digest);
+                Lane::resume(alloc, source, reader, shard, slack, cut, known)
+            }
+            LaneStart::Retrace(cut) => {
+                Lane::resume(alloc, source, reader, shard, slack, cut, None)
+            }
             LaneStart::Lift { cut, wanted } => {
                 Lane::lift(alloc, source, reader, shard, slack, cut, wanted)
             }
         }
     }
 
-    // A lane that goes on from what a cut keeps of it.
+    // A lane that goes on from what a cut keeps of it. Where the digest of the bytes before its
+    // offset is known, they must have it.
     fn resume(
         alloc: Global,
         source: S,
@@ -496,13 +527,16 @@ impl<S: Source, L: LineReader + Drop> Lane<S, L> {
         shard: u32,
         slack: Option<i128>,
         cut: LaneCut,
+        known: Option<Digest>,
     ) -> Result<Lane<S, L>, (LaneRefused, S)>
         requires slack { IsSlack slack }
         requires cut { MayBegin cut }
-        ensures made { IfOk result (λ lane. Begins S.left S.lent_as S.fault_count
-            source reader shard slack cut [] lane) }
-        ensures refused { IfErr result (λ refused. IsNotMade S.left S.lent_as S.fault_count
-            cut [] source refused.0 refused.1) }
+        ensures made { IfOk result (λ lane. Retraces S.left S.lent_as S.fault_count
+            source reader shard slack cut lane) }
+        ensures known { IfOk result (λ lane. IfSome known
+            (λ own. own ≡ lane.state.cut.digest)) }
+        ensures refused { IfErr result (λ refused. IsRefused S.left S.lent_as S.fault_count
+            cut known [] source refused.0 refused.1) }
         ensures unfailing { IsUnfailing (S.fault_plan source)
             → IfOk result (λ lane. IsUnfailing (S.fault_plan lane.source))
             × IfErr result (λ refused. (refused.0 ≢ LaneRefused.Failed)
@@ -510,11 +544,11 @@ impl<S: Source, L: LineReader + Drop> Lane<S, L> {
     {
         let mut source = source;
         let wanted = Lines::of(Vec::new(alloc));
-        match seek(alloc, &mut source, cut.offset, cut.closed, wanted) {
+        match seek(alloc, &mut source, cut.offset, cut.closed, known, wanted) {
             Err(refused) => Err((refused, source)),
-            Ok(places) => {
+            Ok(found) => {
                 let kept = Kept::of(alloc, slack, cut);
-                Ok(Lane::begin(alloc, source, reader, shard, kept, places))
+                Ok(Lane::begin(alloc, source, reader, shard, kept, found))
             }
         }
     }
@@ -533,43 +567,45 @@ impl<S: Source, L: LineReader + Drop> Lane<S, L> {
         requires cut { MayLift cut wanted }
         ensures made { IfOk result (λ lane. Lifts S.left S.lent_as S.fault_count
             source reader shard slack cut wanted lane) }
-        ensures refused { IfErr result (λ refused. IsNotMade S.left S.lent_as S.fault_count
-            cut wanted source refused.0 refused.1) }
+        ensures refused { IfErr result (λ refused. IsRefused S.left S.lent_as S.fault_count
+            cut None wanted source refused.0 refused.1) }
         ensures unfailing { IsUnfailing (S.fault_plan source)
             → IfOk result (λ lane. IsUnfailing (S.fault_plan lane.source))
             × IfErr result (λ refused. (refused.0 ≢ LaneRefused.Failed)
             × IsUnfailing (S.fault_plan refused.1)) }
     {
         let mut source = source;
-        match seek(alloc, &mut source, cut.offset, cut.closed, wanted) {
+        match seek(alloc, &mut source, cut.offset, cut.closed, None, wanted) {
             Err(refused) => Err((refused, source)),
-            Ok(places) => {
-                let kept = Kept::of(alloc, slack, placed(cut, &places));
-                Ok(Lane::begin(alloc, source, reader, shard, kept, places))
+            Ok(found) => {
+                let kept = Kept::of(alloc, slack, placed(cut, &found.places));
+                Ok(Lane::begin(alloc, source, reader, shard, kept, found))
             }
         }
     }
 
-    // A lane that begins with what is kept of it, over the source behind it.
+    // A lane that begins with what is kept of it and was found before it, over the source behind
+    // it.
     fn begin(
         alloc: Global,
         source: S,
         reader: L,
         shard: u32,
         kept: Kept,
-        places: Places,
+        found: Found,
     ) -> Lane<S, L>
-        requires lines { kept.cut.counts.lines ≤ greatest_lines }
-        requires bytes { kept.cut.offset ≤ greatest_bytes }
-        requires ended { kept.cut.closed ≡ true → IfSome (S.left source) (λ left. left ≡ []) }
+        requires lines { kept.counts.lines ≤ greatest_lines }
+        requires bytes { kept.offset ≤ greatest_bytes }
+        requires ended { kept.closed ≡ true → IfSome (S.left source) (λ left. left ≡ []) }
+        requires of_bytes { IsOfBytes found.digest }
         ensures lane { result ≡ record {
           source = source;
           reader = reader;
           shard = shard;
           slack = kept.slack;
-          buffer = record { long = None; unread = [] };
-          places = places;
-          state = beginning_lane kept.cut (S.fault_count source);
+          buffer = record { long = None; unread = []; digest = found.digest };
+          places = found.places;
+          state = beginning_lane (cut_with found.digest kept) (S.fault_count source);
         } }
     {
         kept.ordered();
@@ -577,11 +613,11 @@ impl<S: Source, L: LineReader + Drop> Lane<S, L> {
             source,
             reader,
             shard,
-            buffer: LineBuffer::new(alloc),
+            buffer: LineBuffer::new(alloc, found.digest),
             taken: kept.offset(),
             kept,
             given: Mark::Start,
-            places,
+            places: found.places,
             alloc,
         }
     }

@@ -1,5 +1,5 @@
 //! Laws of lanes: what each step keeps. Each is the contract of a function that does nothing.
-ghost use Rattle.eql_lane.specs.Keeps.{FeedsKeep, TakesHandOut, FreshIs, CutsBegin, LiftedIs, PlacesHaveLines};
+ghost use Rattle.eql_lane.specs.Keeps.{FeedsKeep, TakesHandOut, FreshIs, CutsBegin, RetracedIs, LiftedIs, PlacesHaveLines};
 
 /// After every feed a lane keeps what a cut keeps of its text at its place.
 pub fn feeds_keep()
@@ -12,10 +12,12 @@ pub fn takes_hand_out()
 {}
 
 /// A lane that begins with what a cut keeps of a text, or afresh, is what a cut keeps of that text.
-/// So is one that is lifted, where its cut lacks nothing but places.
+/// So is one that is retraced, where its cut lacks nothing but the digest, and one that is lifted,
+/// where its cut lacks nothing but the digest and places.
 pub fn cuts_begin()
     ensures cuts { CutsBegin }
     ensures fresh { FreshIs }
+    ensures retraced { RetracedIs }
     ensures lifted { LiftedIs }
 {}
 

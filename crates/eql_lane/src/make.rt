@@ -7,10 +7,12 @@ use eql_values::{LaneCut, Lines};
 pub enum LaneStart {
     /// At the start of its shard, of which nothing was read.
     Fresh,
-    /// With what a cut keeps of it.
+    /// With what a cut keeps of it. The bytes before its offset have its digest.
     From(LaneCut),
-    /// With what a cut keeps of it that has no places. They are set anew, and the places of the
-    /// wanted lines are kept for [`places`](crate::Lane::places).
+    /// With what a cut keeps of it that has no digest, which is set anew.
+    Retrace(LaneCut),
+    /// With what a cut keeps of it that has no digest and no places. They are set anew, and the
+    /// places of the wanted lines are kept for [`places`](crate::Lane::places).
     Lift {
         /// What the cut keeps.
         cut: LaneCut,
@@ -29,6 +31,8 @@ pub enum LaneRefused {
         /// How many bytes the source had.
         had: u64,
     },
+    /// The bytes before the offset of the cut have another digest than the cut says.
+    Differs,
     /// A wanted line isn't among the whole lines before the offset of the cut.
     NoLine {
         /// The least such line.

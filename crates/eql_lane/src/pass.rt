@@ -4,27 +4,65 @@ ghost use Rattle.std.specs.List.Sorted.{IsStrictlyIncreasing};
 ghost use Rattle.eql_outside.specs.Outside.{Rose};
 ghost use Rattle.eql_outside.specs.Unfailing.{IsUnfailing};
 ghost use Rattle.eql_lane.specs.Noting.{NotesOf, Locates, IsMissing, is_cut};
-ghost use Rattle.eql_lane.specs.Passing.{PassesOver, ReadsOver, Finds, IsEnd, IsJudged, IsCause, GivesBack};
+ghost use Rattle.eql_digest.specs.Digests.{IsDigestOf};
+ghost use Rattle.eql_lane.specs.Buffers.{IsOfBytes};
+ghost use Rattle.eql_lane.specs.Passing.{PassesOver, ReadsOver, Traces, IsEnd, IsJudged, IsCause, GivesBack};
 
 use crate::buffer::PIECE;
 use crate::make::LaneRefused;
 use crate::notes::Notes;
+use eql_digest::Digest;
 use eql_outside::{Failed, Source, unfailing_stays};
-use eql_values::{Lines, Places};
+use eql_values::{Lines, Memory, Places};
 use std::alloc::Global;
 
-// Takes at most as many bytes as the piece has, notes the lines in them and drops them. It returns
-// how many they were; none are the end.
+/// What is known of bytes that are passed over.
+#[derive(Drop)]
+pub(crate) struct Trace {
+    /// The notes of the lines in them.
+    notes: Notes,
+    /// Their digest.
+    digest: Digest,
+}
+
+/// What was found in bytes that were passed over.
+#[derive(Drop)]
+pub(crate) struct Found {
+    /// The places of the wanted lines.
+    pub(crate) places: Places,
+    /// The digest of the bytes.
+    pub(crate) digest: Digest,
+}
+
+impl Trace {
+    // Nothing was passed over.
+    fn new(alloc: Global, wanted: Lines) -> Result<Trace, Memory>
+        requires ascend { IsStrictlyIncreasing wanted }
+        ensures noted { IfOk result (λ trace. NotesOf [] trace.notes) }
+        ensures digest { IfOk result (λ trace. IsDigestOf trace.digest []) }
+        ensures wanted { IfOk result (λ trace. trace.notes.wanted ≡ wanted) }
+        ensures passed { IfOk result (λ trace. trace.notes.passed ≡ 0) }
+    {
+        let notes = Notes::new(alloc, wanted)?;
+        Ok(Trace {
+            notes,
+            digest: Digest::new(),
+        })
+    }
+}
+
+// Takes at most as many bytes as the piece has, and passes over them. It returns how many they
+// were; none are the end.
 fn pass_piece<S: Source>(
     source: &mut S,
     piece: &mut [u8],
-    notes: &mut Notes,
+    trace: &mut Trace,
 ) -> Result<usize, Failed>
     requires some { 1 ≤ length piece.old }
-    requires far { notes.old.passed + length piece.old < 2 ^ 63 }
+    requires far { trace.old.notes.passed + length piece.old < 2 ^ 63 }
     ensures few { IfOk result (λ n. n ≤ length piece.old) }
     ensures passed { IfOk result (λ n. PassesOver S.left S.lent_as n source.old source.new) }
-    ensures read { IfOk result (λ n. ReadsOver (S.left source.old) n notes.old notes.new) }
+    ensures read { IfOk result (λ n. ReadsOver (S.left source.old) n trace.old trace.new) }
     ensures end { result ≡ Ok 0 → IsEnd S.left source.old }
     ensures kept { IsErr result → PassesOver S.left S.lent_as 0 source.old source.new }
     ensures cause { IsErr result → Rose (S.fault_count source.old) (S.fault_count source.new) }
@@ -35,18 +73,19 @@ fn pass_piece<S: Source>(
 {
     unfailing_stays();
     let n = source.take(piece)?;
-    notes.pass(&piece[..n]);
+    trace.notes.pass(&piece[..n]);
+    trace.digest.add(&piece[..n]);
     Ok(n)
 }
 
-// Takes at most so many bytes, notes the lines in them and drops them. It returns how many they
-// were; none are the end.
-fn pass_some<S: Source>(source: &mut S, most: u64, notes: &mut Notes) -> Result<u64, Failed>
+// Takes at most so many bytes, and passes over them. It returns how many they were; none are the
+// end.
+fn pass_some<S: Source>(source: &mut S, most: u64, trace: &mut Trace) -> Result<u64, Failed>
     requires some { 1 ≤ most }
-    requires far { notes.old.passed + most < 2 ^ 63 }
+    requires far { trace.old.notes.passed + most < 2 ^ 63 }
     ensures few { IfOk result (λ n. n ≤ most) }
     ensures passed { IfOk result (λ n. PassesOver S.left S.lent_as n source.old source.new) }
-    ensures read { IfOk result (λ n. ReadsOver (S.left source.old) n notes.old notes.new) }
+    ensures read { IfOk result (λ n. ReadsOver (S.left source.old) n trace.old trace.new) }
     ensures end { result ≡ Ok 0 → IsEnd S.left source.old }
     ensures kept { IsErr result → PassesOver S.left S.lent_as 0 source.old source.new }
     ensures cause { IsErr result → Rose (S.fault_count source.old) (S.fault_count source.new) }
@@ -57,17 +96,17 @@ fn pass_some<S: Source>(source: &mut S, most: u64, notes: &mut Notes) -> Result<
 {
     let mut piece = [0u8; PIECE];
     let most = most.min(PIECE as u64) as usize;
-    let n = pass_piece(source, &mut piece[..most], notes)?;
+    let n = pass_piece(source, &mut piece[..most], trace)?;
     Ok(n as u64)
 }
 
-// Passes over so many bytes, or over all where the source has fewer, and notes the lines in them.
-// It returns how many they were.
-fn pass_over<S: Source>(source: &mut S, count: u64, notes: &mut Notes) -> Result<u64, Failed>
-    requires far { notes.old.passed + count < 2 ^ 63 }
+// Passes over so many bytes, or over all where the source has fewer. It returns how many they
+// were.
+fn pass_over<S: Source>(source: &mut S, count: u64, trace: &mut Trace) -> Result<u64, Failed>
+    requires far { trace.old.notes.passed + count < 2 ^ 63 }
     ensures few { IfOk result (λ n. n ≤ count) }
     ensures passed { IfOk result (λ n. PassesOver S.left S.lent_as n source.old source.new) }
-    ensures read { IfOk result (λ n. ReadsOver (S.left source.old) n notes.old notes.new) }
+    ensures read { IfOk result (λ n. ReadsOver (S.left source.old) n trace.old trace.new) }
     ensures end { IfOk result (λ n. n < count → IsEnd S.left source.new) }
     ensures kept { IsErr result
         → (n : ℕ) × (n ≤ count) × PassesOver S.left S.lent_as n source.old source.new }
@@ -79,7 +118,7 @@ fn pass_over<S: Source>(source: &mut S, count: u64, notes: &mut Notes) -> Result
 {
     let mut passed = 0;
     while passed < count {
-        match pass_some(source, count - passed, notes) {
+        match pass_some(source, count - passed, trace) {
             Err(failed) => return Err(failed),
             Ok(0) => return Ok(passed),
             Ok(n) => passed += n,
@@ -132,44 +171,62 @@ fn ends_here<S: Source>(source: &mut S, closed: bool, notes: &Notes) -> Result<b
     Ok(false)
 }
 
-// The places of the wanted lines before a place, behind which the text ends or not, where all were
-// found and no byte follows a closed place.
-fn judge(notes: Notes, closed: bool, ended: bool) -> Result<Places, LaneRefused>
-    ensures located { IfOk result (λ places. (front rest : List ℕ) → NotesOf front notes
-        → (ended ≡ true → rest ≡ []) → Locates front rest notes.wanted places) }
+// What is found before a place, behind which the text ends or not, where all wanted lines are there
+// and no byte follows a closed place.
+fn judge(trace: Trace, closed: bool, ended: bool) -> Result<Found, LaneRefused>
+    ensures located { IfOk result (λ found. (front rest : List ℕ) → NotesOf front trace.notes
+        → (ended ≡ true → rest ≡ []) → Locates front rest trace.notes.wanted found.places) }
+    ensures digest { IfOk result (λ found. found.digest ≡ trace.digest) }
     ensures whole { IsOk result → (closed ≡ true → ended ≡ true)
-        × (ended ≡ false → is_cut notes ≡ false) }
-    ensures refused { IfErr result (λ refused. (front rest : List ℕ) → NotesOf front notes
-        → (ended ≡ true → rest ≡ []) → (ended ≡ false → rest ≡ [] → is_cut notes ≡ false)
-        → IsJudged front rest notes.wanted closed ended refused) }
+        × (ended ≡ false → is_cut trace.notes ≡ false) }
+    ensures refused { IfErr result (λ refused. (front rest : List ℕ) → NotesOf front trace.notes
+        → (ended ≡ true → rest ≡ []) → (ended ≡ false → rest ≡ [] → is_cut trace.notes ≡ false)
+        → IsJudged front rest trace.notes.wanted closed ended refused) }
     ensures steady { result ≢ Err LaneRefused.Failed }
 {
-    let mut notes = notes;
+    let mut notes = trace.notes;
     if let Some(line) = notes.finish(ended) {
         return Err(LaneRefused::NoLine { line });
     }
     if closed && !ended {
         return Err(LaneRefused::Grown);
     }
-    Ok(notes.into_places())
+    Ok(Found {
+        places: notes.into_places(),
+        digest: trace.digest,
+    })
 }
 
-/// Passes over the bytes before an offset, and finds the wanted lines in them. Where the shard was
-/// closed there, no byte may follow.
+// Whether a digest is the one that is known, where one is.
+fn agrees(known: Option<Digest>, digest: Digest) -> bool
+    ensures same { result ≡ true → IfSome known (λ own. own ≡ digest) }
+    ensures other { result ≡ false → ¬ IfSome known (λ own. own ≡ digest) }
+{
+    match known {
+        None => true,
+        Some(own) => own == digest,
+    }
+}
+
+/// Passes over the bytes before an offset, and finds the wanted lines in them, and their digest.
+/// Where it is known they must have it. Where the shard was closed there, no byte may follow.
 pub(crate) fn seek<S: Source>(
     alloc: Global,
     source: &mut S,
     offset: u64,
     closed: bool,
+    known: Option<Digest>,
     wanted: Lines,
-) -> Result<Places, LaneRefused>
+) -> Result<Found, LaneRefused>
     requires far { offset < 2 ^ 63 }
     requires ascend { IsStrictlyIncreasing wanted }
     ensures passed { IsOk result → PassesOver S.left S.lent_as offset source.old source.new }
     ensures ended { IsOk result → closed ≡ true → IsEnd S.left source.new }
-    ensures finds { IfOk result (λ places. Finds (S.left source.old) offset wanted places) }
+    ensures finds { IfOk result (λ found. Traces (S.left source.old) offset wanted found) }
+    ensures of_bytes { IfOk result (λ found. IsOfBytes found.digest) }
+    ensures known { IfOk result (λ found. IfSome known (λ own. own ≡ found.digest)) }
     ensures cause { IfErr result (λ refused. IsCause (S.left source.old)
-        (S.fault_count source.old) (S.fault_count source.new) offset closed wanted refused) }
+        (S.fault_count source.old) (S.fault_count source.new) offset closed known wanted refused) }
     ensures steady { result ≢ Err LaneRefused.Failed
         → S.fault_count source.new ≡ S.fault_count source.old }
     ensures gives { IsErr result
@@ -177,17 +234,20 @@ pub(crate) fn seek<S: Source>(
     ensures unfailing { IsUnfailing (S.fault_plan source.old)
         → (result ≢ Err LaneRefused.Failed) × IsUnfailing (S.fault_plan source.new) }
 {
-    let Ok(mut notes) = Notes::new(alloc, wanted) else {
+    let Ok(mut trace) = Trace::new(alloc, wanted) else {
         return Err(LaneRefused::Memory);
     };
-    let Ok(had) = pass_over(source, offset, &mut notes) else {
+    let Ok(had) = pass_over(source, offset, &mut trace) else {
         return Err(LaneRefused::Failed);
     };
     if had < offset {
         return Err(LaneRefused::Short { offset, had });
     }
-    let Ok(ended) = ends_here(source, closed, &notes) else {
+    if !agrees(known, trace.digest) {
+        return Err(LaneRefused::Differs);
+    }
+    let Ok(ended) = ends_here(source, closed, &trace.notes) else {
         return Err(LaneRefused::Failed);
     };
-    judge(notes, closed, ended)
+    judge(trace, closed, ended)
 }

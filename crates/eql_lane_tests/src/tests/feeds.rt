@@ -10,7 +10,12 @@ use std::test::Fail;
 const MANY: LaneOp = LaneOp::Feed { max: 4096 };
 
 /// A text of a piece so many times, and of what stands behind.
-fn text_of(alloc: Global, count: usize, piece: &[u8], behind: &[u8]) -> Result<Vec<u8>, Fail> {
+pub(crate) fn text_of(
+    alloc: Global,
+    count: usize,
+    piece: &[u8],
+    behind: &[u8],
+) -> Result<Vec<u8>, Fail> {
     let mut text = Vec::new(alloc);
     for _ in 0..count {
         text.extend_from_slice(piece)?;

@@ -3,7 +3,9 @@
 ghost use Rattle.std.specs.Prelude.{◌≡◌, ◌≤◌, [], IfOk};
 ghost use Rattle.eql_lane.specs.Starts.{MayBegin, MayStart};
 
+use crate::tests::digests::digest_of;
 use crate::tests::reader::FirstByte;
+use eql_digest::Digest;
 use eql_lane::{Lane, LaneOp, LaneRefused, LaneReply, LaneStart, ShardLimit};
 use eql_outside::{MemFile, MemSource, Source};
 use eql_values::{Counts, Item, Items, LaneCut, LineReader, Mark, Memory, OrderKey, Routes};
@@ -276,8 +278,10 @@ struct Start {
     text: &'static [u8],
     /// The numbers, from 1, of the takes that fail.
     fails: &'static [u64],
-    /// The bytes that the cut says were read.
+    /// How many bytes the cut says were read.
     offset: u64,
+    /// The bytes of whose digest the cut is.
+    read: &'static [u8],
     /// Whether the cut says that the shard was closed.
     closed: bool,
     /// The lines that the cut says were read.
@@ -291,6 +295,7 @@ static STARTS: &[Start] = &[
         text: b"1\n2\n3",
         fails: &[],
         offset: 2,
+        read: b"1\n",
         closed: false,
         lines: 7,
         told: "fed 1;fed 1;taken 8@2 9@4;",
@@ -299,6 +304,7 @@ static STARTS: &[Start] = &[
         text: b"1\n",
         fails: &[],
         offset: 2,
+        read: b"1\n",
         closed: false,
         lines: 1,
         told: "closed;closed;taken;",
@@ -307,6 +313,7 @@ static STARTS: &[Start] = &[
         text: b"1\n2",
         fails: &[],
         offset: 5,
+        read: b"1\n2",
         closed: false,
         lines: 1,
         told: "short 5 3",
@@ -315,6 +322,7 @@ static STARTS: &[Start] = &[
         text: b"",
         fails: &[],
         offset: 1,
+        read: b"",
         closed: true,
         lines: 1,
         told: "short 1 0",
@@ -323,6 +331,7 @@ static STARTS: &[Start] = &[
         text: b"1\n2",
         fails: &[],
         offset: 3,
+        read: b"1\n2",
         closed: true,
         lines: 2,
         told: "closed;closed;taken;",
@@ -331,6 +340,7 @@ static STARTS: &[Start] = &[
         text: b"1\n2",
         fails: &[],
         offset: 2,
+        read: b"1\n",
         closed: true,
         lines: 1,
         told: "grown",
@@ -339,6 +349,7 @@ static STARTS: &[Start] = &[
         text: b"1\n2",
         fails: &[1],
         offset: 2,
+        read: b"1\n",
         closed: false,
         lines: 1,
         told: "failed",
@@ -348,15 +359,55 @@ static STARTS: &[Start] = &[
         text: b"1\n",
         fails: &[3],
         offset: 2,
+        read: b"1\n",
         closed: true,
         lines: 1,
         told: "failed",
+    },
+    // Other bytes stand before the offset, by one or by what stands behind it too.
+    Start {
+        text: b"1\n2\n3",
+        fails: &[],
+        offset: 2,
+        read: b"2\n",
+        closed: false,
+        lines: 1,
+        told: "differs",
+    },
+    Start {
+        text: b"1\n2\n3",
+        fails: &[],
+        offset: 2,
+        read: b"1\n2\n",
+        closed: false,
+        lines: 1,
+        told: "differs",
+    },
+    // They are told before a further byte is, and not where there are too few.
+    Start {
+        text: b"1\n2",
+        fails: &[],
+        offset: 2,
+        read: b"",
+        closed: true,
+        lines: 1,
+        told: "differs",
+    },
+    Start {
+        text: b"1\n2",
+        fails: &[],
+        offset: 4,
+        read: b"3\n4\n",
+        closed: false,
+        lines: 2,
+        told: "short 4 3",
     },
     // No further line may be read.
     Start {
         text: b"{}a",
         fails: &[],
         offset: 2,
+        read: b"{}",
         closed: false,
         lines: 4294967294,
         told: "too many lines 0;too many lines 0;taken;",
@@ -364,7 +415,13 @@ static STARTS: &[Start] = &[
 ];
 
 /// A cut that holds no events.
-pub(crate) fn empty_cut(alloc: Global, offset: u64, closed: bool, lines: u32) -> LaneCut
+pub(crate) fn empty_cut(
+    alloc: Global,
+    offset: u64,
+    digest: Digest,
+    closed: bool,
+    lines: u32,
+) -> LaneCut
     requires lines { lines ≤ 4294967294 }
     requires bytes { offset ≤ 1099511627776 }
     ensures may { MayBegin result }
@@ -372,6 +429,7 @@ pub(crate) fn empty_cut(alloc: Global, offset: u64, closed: bool, lines: u32) ->
 {
     LaneCut {
         offset,
+        digest,
         closed,
         best: None,
         counts: Counts {
@@ -389,6 +447,7 @@ pub(crate) fn empty_cut(alloc: Global, offset: u64, closed: bool, lines: u32) ->
 fn write_refused(out: &mut String, refused: LaneRefused) -> Result<(), Fail> {
     match refused {
         LaneRefused::Short { offset, had } => write!(out, "short {offset} {had}")?,
+        LaneRefused::Differs => write!(out, "differs")?,
         LaneRefused::NoLine { line } => write!(out, "no line {line}")?,
         LaneRefused::Grown => write!(out, "grown")?,
         LaneRefused::Failed => write!(out, "failed")?,
@@ -410,7 +469,8 @@ fn told_of_start(alloc: Global, start: &Start) -> Result<String, Fail> {
         return Err(Fail::from("no such cut"));
     }
     let source = source(alloc, start.text, 1, start.fails)?;
-    let cut = empty_cut(alloc, start.offset, start.closed, start.lines);
+    let digest = digest_of(start.read);
+    let cut = empty_cut(alloc, start.offset, digest, start.closed, start.lines);
     match Lane::make(
         alloc,
         source,
@@ -432,10 +492,10 @@ fn told_of_start(alloc: Global, start: &Start) -> Result<String, Fail> {
     }
 }
 
-/// What a cut keeps of a lane with a slack of a second over two lines. The one on this line is `5`, and is held. So many of
-/// both were accepted, and so many late.
+/// What a cut keeps of a lane with a slack of a second over two lines, with this digest. The one on this line is `5`, and is held.
+/// So many of both were accepted, and so many late.
 macro_rules! cut_of_two {
-    ($alloc:expr, $line:expr, $accepted:expr, $late:expr) => {{
+    ($alloc:expr, $digest:expr, $line:expr, $accepted:expr, $late:expr) => {{
         let mut items = Vec::new($alloc);
         items.push(Item {
             order: OrderKey {
@@ -449,6 +509,7 @@ macro_rules! cut_of_two {
         })?;
         LaneCut {
             offset: 4,
+            digest: $digest,
             closed: false,
             best: Some(5000000000),
             counts: Counts {
@@ -465,11 +526,11 @@ macro_rules! cut_of_two {
 
 pub(crate) use cut_of_two;
 
-/// What a cut keeps over the lines `5` and `1`: the first is held, the second is late.
-fn cut_of_two_lines(alloc: Global) -> Result<LaneCut, Memory>
+/// What a cut keeps over the lines `5` and `1`, with this digest: the first is held, the second is late.
+pub(crate) fn cut_of_two_lines(alloc: Global, digest: Digest) -> Result<LaneCut, Memory>
     ensures { IfOk result MayBegin }
 {
-    Ok(cut_of_two!(alloc, 1, 1, 1))
+    Ok(cut_of_two!(alloc, digest, 1, 1, 1))
 }
 
 /// A lane with a slack of a second that begins so.
@@ -490,7 +551,8 @@ pub(crate) fn begun(alloc: Global, source: MemSource, start: LaneStart) -> Resul
 fn held_events_go_on_from_a_cut(rt: HostRuntime) -> Result<(), Fail> {
     let alloc = rt.alloc();
     let source = source(alloc, b"5\n1\n4\n3\n", 3, &[])?;
-    let mut lane = begun(alloc, source, LaneStart::From(cut_of_two_lines(alloc)?))?;
+    let cut = cut_of_two_lines(alloc, digest_of(b"5\n1\n"))?;
+    let mut lane = begun(alloc, source, LaneStart::From(cut))?;
     let told = replies(alloc, &mut lane, &[LOOK, LaneOp::Snap, NINE, END]);
     let counts = lane.counts();
     drop(lane);

@@ -7,6 +7,7 @@ use crate::tests::lanes::{
     END, NINE, TestLane, begun, cut_of_two, empty_cut, refusal, replies, source,
 };
 use crate::tests::reader::FirstByte;
+use eql_digest::Digest;
 use eql_lane::{Lane, LaneOp, LaneStart};
 use eql_values::{Counts, Item, Items, LaneCut, Lines, Memory, OrderKey, Places, Routes};
 use std::alloc::Global;
@@ -188,7 +189,7 @@ fn start_of(alloc: Global, lift: &Lift) -> Result<LaneStart, Fail>
         return Err(Fail::from("no such cut"));
     }
     let wanted = ascending(alloc, lift.wanted)?;
-    let cut = empty_cut(alloc, lift.offset, lift.closed, 9);
+    let cut = empty_cut(alloc, lift.offset, Digest::new(), lift.closed, 9);
     Ok(LaneStart::Lift { cut, wanted })
 }
 
@@ -263,7 +264,7 @@ fn lift_of_line_two(alloc: Global) -> Result<LaneStart, Memory>
 {
     let mut wanted = Vec::new(alloc);
     wanted.push(2)?;
-    let cut = cut_of_two!(alloc, 2, 2, 0);
+    let cut = cut_of_two!(alloc, Digest::new(), 2, 2, 0);
     Ok(LaneStart::Lift {
         cut,
         wanted: Lines::of(wanted),

@@ -8,4 +8,4 @@ returns-then-not-ended-clause-refused c front rest n at_end tested =
 
 pub returns-clause-located : goal.returns-clause-located
 returns-clause-located c front rest n at_end =
-    subst (Locates front rest c.args.notes.wanted) (sym c.into_places.ensures) (c.in_default.ensures.located refl front rest n at_end)
+    subst (Locates front rest c.args.trace.notes.wanted) (sym c.into_places.ensures) (c.in_default.ensures.located refl front rest n at_end)

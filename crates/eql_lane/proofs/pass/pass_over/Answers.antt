@@ -7,7 +7,7 @@ use Rattle.eql_lane.proofs.pass.pass_over.Goals as goal
 pub loop-passed-init : goal.loop-passed-init
 loop-passed-init g c = record {
   few = omega arith;
-  read = read_start (g.S.Source.left c.args.source.now) c.args.notes.now;
+  read = read_start (g.S.Source.left c.args.source.now) c.args.trace.now;
   over = passed_start g.S.Source.left g.S.Source.lent_as c.args.source.now;
   unfailing = λ never. never;
   steady = refl;
@@ -18,7 +18,7 @@ loop-passed-preserved g c =
     let inv = c.loop-passed.invariant in
     record {
       few = omega (arith, inv.few, c.in-Ok.ensures.few, c.loop-passed-test.true);
-      read = read_join g.S.Source.left g.S.Source.lent_as c.loop-passed.passed c.in-Ok.n c.args.source.now c.loop-passed.source c.args.notes.now c.loop-passed.notes c.pass_some.new.notes inv.over inv.read c.in-Ok.ensures.read;
+      read = read_join g.S.Source.left g.S.Source.lent_as c.loop-passed.passed c.in-Ok.n c.args.source.now c.loop-passed.source c.args.trace.now c.loop-passed.trace c.pass_some.new.trace inv.over inv.read c.in-Ok.ensures.read;
       over = passed_join g.S.Source.left g.S.Source.lent_as c.loop-passed.passed c.in-Ok.n c.args.source.now c.loop-passed.source c.pass_some.new.source inv.over c.in-Ok.ensures.passed;
       unfailing = λ never. (c.in-Ok.ensures.unfailing (inv.unfailing never)).1;
       steady = c.in-Ok.ensures.steady refl ∙ inv.steady;
@@ -59,7 +59,7 @@ pass_some-requires-clause-far g c =
 pub returns-in-Ok-eq0-clause-read : goal.returns-in-Ok-eq0-clause-read
 returns-in-Ok-eq0-clause-read g c =
     let inv = c.loop-passed.invariant in
-    read_none g.S.Source.left g.S.Source.lent_as c.loop-passed.passed c.in-Ok-eq0.field-0 c.args.source.now c.loop-passed.source c.args.notes.now c.loop-passed.notes c.pass_some.new.notes c.in-Ok-eq0.field-0-test inv.over inv.read c.in-Ok-eq0.ensures.read
+    read_none g.S.Source.left g.S.Source.lent_as c.loop-passed.passed c.in-Ok-eq0.field-0 c.args.source.now c.loop-passed.source c.args.trace.now c.loop-passed.trace c.pass_some.new.trace c.in-Ok-eq0.field-0-test inv.over inv.read c.in-Ok-eq0.ensures.read
 
 pub returns-clause-read : goal.returns-clause-read
 returns-clause-read g c = c.loop-passed.invariant.read

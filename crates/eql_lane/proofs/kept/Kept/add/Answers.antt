@@ -61,7 +61,7 @@ lines_on n late at g items lines is =
 pub invariant_of-self-2 : goal.invariant_of-self-2
 invariant_of-self-2 c =
     let held = c.in_ok-hold.ensures.items in
-    let at : IsGotAt (c.self.inside.counts.lines + 1) c.args.got = subst (λ (k : KeptView). IsGotAt (k.cut.counts.lines + 1) c.args.got) (sym c.self.view_is) c.requires.got in
+    let at : IsGotAt (c.self.inside.counts.lines + 1) c.args.got = subst (λ (k : KeptView). IsGotAt (k.counts.lines + 1) c.args.got) (sym c.self.view_is) c.requires.got in
     record {
       lines = subst (λ (n : ℕ). All (λ (item : Item). item.order.line ≤ n) c.hold.new.held)
           (sym (ap (λ (counts : Counts). counts.lines) c.counts_with-counts.ensures.counts ∙ more_lines c.self.inside.counts c.gives_late-late.result c.args.got))
@@ -75,7 +75,7 @@ invariant_of-self-2 c =
           let d = c.self.invariant.few in omega (arith, a, b, h, s, l, d);
       fewer = c.counts_with-counts.ensures.fewer;
       within = let a = ap (λ (counts : Counts). counts.lines) c.counts_with-counts.ensures.counts in let b = more_lines c.self.inside.counts c.gives_late-late.result c.args.got in
-          let d : c.self.inside.counts.lines < greatest_lines = subst (λ (k : KeptView). k.cut.counts.lines < greatest_lines) (sym c.self.view_is) c.requires.lines in omega (arith, a, b, d);
+          let d : c.self.inside.counts.lines < greatest_lines = subst (λ (k : KeptView). k.counts.lines < greatest_lines) (sym c.self.view_is) c.requires.lines in omega (arith, a, b, d);
       in_range = subst (λ (o : Option ℤ). IfSome o IsTime) (sym c.best_with-best.ensures) (best_in _ c.self.inside.best c.args.got c.self.invariant.in_range c.requires.got);
       is_slack = c.self.invariant.is_slack;
     }

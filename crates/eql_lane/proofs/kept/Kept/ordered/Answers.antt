@@ -5,4 +5,4 @@ use Rattle.eql_lane.proofs.HeldLemmas.{sorted_whole}
 use Rattle.eql_lane.proofs.kept.Kept.ordered.Goals as goal
 
 pub returns : goal.returns
-returns c = subst (λ (k : KeptView). sorted_items k.cut.items ≡ k.cut.items) c.self.view_is (sym (sorted_whole c.self.inside.held c.ordered.ensures))
+returns c = subst (λ (k : KeptView). sorted_items k.items ≡ k.items) c.self.view_is (sym (sorted_whole c.self.inside.held c.ordered.ensures))
