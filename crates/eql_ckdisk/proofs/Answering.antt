@@ -119,7 +119,7 @@ kept_refused r y o p q is same kept =
     (λ tells. subst (λ (x : Option History). DiskTells KeepsAll o x) (sym same) kept)
 
 -- a text of a cut is put
-module _ (last : LastCut) (cut : Cut) (bytes : List ℕ) (t : IsText 3 cut bytes) where
+module _ (last : LastCut) (cut : Cut) (bytes : List ℕ) (t : IsText 4 cut bytes) where
   cut_put : (h k : History) → PutsText last bytes h k → Puts last cut h k
   cut_put h k put f at finds =
       goes_as (Keeps f (text_at (next last) bytes)) (KeepsOrPuts f (next last) cut)

@@ -206,7 +206,7 @@ pub puts_found : PutsAreFound
 puts_found put cut last format None f (bytes, is, t) (none, no_format, no_generation) = absurd (let e : text_at put bytes ≡ nothing = sym is ∙ none in cc)
 puts_found put cut last format (Some other) f (bytes, is, t) (seen, there, alone) =
     let same = same_text put last bytes seen (sym is ∙ there) in
-    let only = alone.alone 3 cut (subst (IsText 3 cut) same.1 t) in
+    let only = alone.alone 4 cut (subst (IsText 4 cut) same.1 t) in
     (ap Some (sym only.1), sym only.0, sym same.0)
 
 one_answer : (last other : LastCut) (format other_format : ℕ) (answer other_answer : Option Cut) (f : Found)

@@ -8,9 +8,9 @@ use Rattle.eql_ckdisk.specs.Found.{Found, nothing, Finds, EachFinds, LastCut, Is
 use Rattle.eql_ckdisk.specs.Going.{Goes, IsNoOlder}
 use Rattle.eql_ckdisk.specs.Putting.{text_at}
 
--- what was found is the text of this cut in format 3, in this area with this generation
+-- what was found is the text of this cut in format 4, in this area with this generation
 abbrev pub FindsPut : LastCut → Cut → Found → Type 0
-FindsPut last cut found = (bytes : List ℕ) × (found ≡ text_at last bytes) × IsText 3 cut bytes
+FindsPut last cut found = (bytes : List ℕ) × (found ≡ text_at last bytes) × IsText 4 cut bytes
 
 -- what was found is the text of this cut in this format, and of no other cut, in this area with this generation
 abbrev pub FindsCut : LastCut → ℕ → Cut → Found → Type 0
@@ -23,7 +23,7 @@ IsFound last format (Some cut) found = FindsCut last format cut found
 
 -- each image at the moment stands for the text of this cut, and all for one and the same
 abbrev pub Holds : LastCut → Cut → Moment → Type 0
-Holds last cut m = (bytes : List ℕ) × IsText 3 cut bytes × Finds (text_at last bytes) m
+Holds last cut m = (bytes : List ℕ) × IsText 4 cut bytes × Finds (text_at last bytes) m
 
 -- each image at the moment stands for what was there or for the new cut, and none is older than all at the moment
 -- before

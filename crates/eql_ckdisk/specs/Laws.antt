@@ -61,4 +61,4 @@ pub record FoundIsOne : Type 0 where
 abbrev pub PutsAreFound : Type 0
 PutsAreFound = (put : LastCut) (cut : Cut) (last : LastCut) (format : ℕ) (answer : Option Cut) (f : Found)
     → FindsPut put cut f → IsFound last format answer f
-    → (answer ≡ Some cut) × (format ≡ 3) × (last ≡ put)
+    → (answer ≡ Some cut) × (format ≡ 4) × (last ≡ put)

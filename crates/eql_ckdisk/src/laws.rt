@@ -28,7 +28,7 @@ pub fn never_older()
     ensures { PutsAreNoOlder }
 {}
 
-/// A recovery that finds a cut that was put returns that cut, in format 3, with its area and its generation.
+/// A recovery that finds a cut that was put returns that cut, in format 4, with its area and its generation.
 pub fn puts_are_found()
     ensures { PutsAreFound }
 {}

@@ -32,7 +32,7 @@ fn put_head(made: &mut [u8], generation: u64)
 // The generation, the length of the text, and the text of the cut.
 fn make_block(alloc: Global, generation: u64, cut: &Cut) -> Result<Vec<u8>, Memory>
     requires { IsCut cut.now }
-    ensures text { IfOk result (λ made. IsText 3 cut.now (drop 16 made.items)) }
+    ensures text { IfOk result (λ made. IsText 4 cut.now (drop 16 made.items)) }
     ensures head { IfOk result (λ made. made.items ≡ block generation (drop 16 made.items)) }
 {
     let mut made = encode_behind(alloc, &[0; 16], cut)?;

@@ -22,7 +22,7 @@ use std::alloc::Global;
 pub struct Recovered {
     /// The cut, where an area is open.
     pub cut: Option<Cut>,
-    /// The format of its text, 1 to 3, or 0 where there is no cut.
+    /// The format of its text, 1 to 4, or 0 where there is no cut.
     pub format: u8,
     /// Its area and its generation, which is 0 where there is no cut.
     pub state: CkState,

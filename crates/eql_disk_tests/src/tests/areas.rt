@@ -10,7 +10,7 @@ use std::test::Fail;
 enum Finds {
     /// No cut.
     Nothing,
-    /// The cut of this mark, in this area with this generation, in format 3.
+    /// The cut of this mark, in this area with this generation, in format 4.
     Cut(i128, Area, u64),
     /// An area that is damaged, and where.
     Damaged(u32, u64),
@@ -41,47 +41,49 @@ macro_rules! area_row {
     };
 }
 
-/// Areas of every kind. A text has 91 bytes, 5b.
+/// Areas of every kind. A text has 99 bytes, 63.
 static ROWS: &[Row] = &[
     area_row!("two empty areas" => Finds::Nothing; "", ""),
-    area_row!("closed" => Finds::Nothing; "00 0100000000000000 5b00000000000000 T", "00"),
+    area_row!("closed" => Finds::Nothing; "00 0100000000000000 6300000000000000 T", "00"),
     area_row!("a closed gate beside a cut" => Finds::Cut(2, Area::B, 2);
-        "00", "01 0200000000000000 5b00000000000000 U"),
+        "00", "01 0200000000000000 6300000000000000 U"),
     area_row!("both areas another program's" => Finds::Foreign(0); "7b", "7b"),
     area_row!("another program's beside a damaged area" => Finds::Foreign(1); "01", "7b"),
     area_row!("one in area 0" => Finds::Cut(1, Area::A, 1);
-        "01 0100000000000000 5b00000000000000 T", ""),
+        "01 0100000000000000 6300000000000000 T", ""),
     area_row!("one in area 1" => Finds::Cut(2, Area::B, 2);
-        "", "01 0200000000000000 5b00000000000000 U"),
+        "", "01 0200000000000000 6300000000000000 U"),
     area_row!("the greater generation in area 0" => Finds::Cut(3, Area::A, 259);
-        "01 0301000000000000 5b00000000000000 V", "01 0400000000000000 5b00000000000000 U"),
+        "01 0301000000000000 6300000000000000 V", "01 0400000000000000 6300000000000000 U"),
     area_row!("the greater generation in area 1" => Finds::Cut(2, Area::B, 10);
-        "01 0900000000000000 5b00000000000000 V", "01 0a00000000000000 5b00000000000000 U"),
+        "01 0900000000000000 6300000000000000 V", "01 0a00000000000000 6300000000000000 U"),
     area_row!("equal generations" => Finds::Cut(3, Area::A, 9);
-        "01 0900000000000000 5b00000000000000 V", "01 0900000000000000 5b00000000000000 U"),
+        "01 0900000000000000 6300000000000000 V", "01 0900000000000000 6300000000000000 U"),
     area_row!("bytes behind the text" => Finds::Cut(1, Area::A, 1);
-        "01 0100000000000000 5b00000000000000 T ffff", ""),
+        "01 0100000000000000 6300000000000000 T ffff", ""),
     area_row!("the greatest generation" => Finds::Cut(1, Area::A, 9223372036854775808);
-        "01 0000000000000080 5b00000000000000 T", ""),
+        "01 0000000000000080 6300000000000000 T", ""),
     area_row!("a greater one" => Finds::Damaged(0, 0);
-        "01 0100000000000080 5b00000000000000 T", "01 0100000000000000 5b00000000000000 U"),
-    area_row!("generation 0" => Finds::Damaged(0, 0); "01 0000000000000000 5b00000000000000 T", ""),
+        "01 0100000000000080 6300000000000000 T", "01 0100000000000000 6300000000000000 U"),
+    area_row!("generation 0" => Finds::Damaged(0, 0); "01 0000000000000000 6300000000000000 T", ""),
     area_row!("a gate alone" => Finds::Damaged(1, 0); "", "01"),
     area_row!("16 bytes" => Finds::Damaged(0, 0); "01 0100000000000000 00000000000000", ""),
     area_row!("a gate alone, which is older" => Finds::Cut(2, Area::B, 1);
-        "01 ff", "01 0100000000000000 5b00000000000000 U"),
+        "01 ff", "01 0100000000000000 6300000000000000 U"),
     area_row!("the text 00" => Finds::Damaged(0, 0); "01 0100000000000000 0100000000000000 00", ""),
     area_row!("a damaged area that is older" => Finds::Cut(1, Area::B, 2);
-        "01 0100000000000000 0100000000000000 00", "01 0200000000000000 5b00000000000000 T"),
+        "01 0100000000000000 0100000000000000 00", "01 0200000000000000 6300000000000000 T"),
     area_row!("no text" => Finds::Damaged(0, 0); "01 0100000000000000 0000000000000000", ""),
-    area_row!("a format 4" => Finds::Damaged(1, 4);
-        "", "01 0100000000000000 0500000000000000 45514c4304"),
-    area_row!("a text cut short" => Finds::Damaged(0, 83);
-        "01 0100000000000000 5a00000000000000 T", ""),
-    area_row!("a text too long" => Finds::Damaged(0, 91);
-        "01 0100000000000000 5c00000000000000 T 00", ""),
+    area_row!("a format 5" => Finds::Damaged(1, 4);
+        "", "01 0100000000000000 0500000000000000 45514c4305"),
+    area_row!("a text cut short" => Finds::Damaged(0, 91);
+        "01 0100000000000000 6200000000000000 T", ""),
+    area_row!("a text without its checksum" => Finds::Damaged(0, 91);
+        "01 0100000000000000 5b00000000000000 T", ""),
+    area_row!("a text too long" => Finds::Damaged(0, 99);
+        "01 0100000000000000 6400000000000000 T 00", ""),
     area_row!("a text that isn't there" => Finds::Damaged(0, 0);
-        "01 0100000000000000 5c00000000000000 T", ""),
+        "01 0100000000000000 6400000000000000 T", ""),
     area_row!("a length of all bits" => Finds::Damaged(0, 0);
         "01 0100000000000000 ffffffffffffffff T", ""),
 ];
@@ -92,7 +94,7 @@ fn is_as(found: &Recovered, expected: Finds) -> bool {
         (None, Finds::Nothing) => found.format == 0 && found.state.generation() == 0,
         (Some(cut), Finds::Cut(mark, area, generation)) => {
             cut.mark == mark
-                && found.format == 3
+                && found.format == 4
                 && found.state.area() == area
                 && found.state.generation() == generation
         }
@@ -138,7 +140,7 @@ fn areas_are_read(rt: HostRuntime) -> Result<(), Fail> {
 static FOREIGN: &[&str] = &["02", "0a 01", "23 21", "5b", "7b 22 0100000000000000", "ff"];
 
 /// An area that holds the cut with the mark 1.
-const CUT: &str = "01 0100000000000000 5b00000000000000 T";
+const CUT: &str = "01 0100000000000000 6300000000000000 T";
 
 /// Whether a recovery refuses these areas as another program's, of which this is the first, and leaves both as they are.
 fn is_left(alloc: Global, a: &str, b: &str, area: u32) -> Result<bool, Fail> {
@@ -185,45 +187,45 @@ static PUTS: &[Put] = &[
         a: "",
         b: "00 ff",
         mark: 1,
-        then: Some(("01 0100000000000000 5b00000000000000 T", "00 ff")),
+        then: Some(("01 0100000000000000 6300000000000000 T", "00 ff")),
     },
     // What stood behind the new text stays.
     Put {
-        a: "00 0900000000000000 5c00000000000000 V eeff",
+        a: "00 0900000000000000 6400000000000000 V eeff",
         b: "",
         mark: 1,
-        then: Some(("01 0100000000000000 5b00000000000000 T eeff", "")),
+        then: Some(("01 0100000000000000 6300000000000000 T eeff", "")),
     },
     Put {
-        a: "01 ff00000000000000 5b00000000000000 T",
+        a: "01 ff00000000000000 6300000000000000 T",
         b: "",
         mark: 2,
         then: Some((
-            "01 ff00000000000000 5b00000000000000 T",
-            "01 0001000000000000 5b00000000000000 U",
+            "01 ff00000000000000 6300000000000000 T",
+            "01 0001000000000000 6300000000000000 U",
         )),
     },
     Put {
-        a: "01 0100000000000000 5b00000000000000 T",
-        b: "01 0200000000000000 5b00000000000000 U",
+        a: "01 0100000000000000 6300000000000000 T",
+        b: "01 0200000000000000 6300000000000000 U",
         mark: 3,
         then: Some((
-            "01 0300000000000000 5b00000000000000 V",
-            "01 0200000000000000 5b00000000000000 U",
+            "01 0300000000000000 6300000000000000 V",
+            "01 0200000000000000 6300000000000000 U",
         )),
     },
     // The greatest generation is still given, and none after it.
     Put {
         a: "",
-        b: "01 ffffffffffffff7f 5b00000000000000 U",
+        b: "01 ffffffffffffff7f 6300000000000000 U",
         mark: 3,
         then: Some((
-            "01 0000000000000080 5b00000000000000 V",
-            "01 ffffffffffffff7f 5b00000000000000 U",
+            "01 0000000000000080 6300000000000000 V",
+            "01 ffffffffffffff7f 6300000000000000 U",
         )),
     },
     Put {
-        a: "01 0000000000000080 5b00000000000000 T",
+        a: "01 0000000000000080 6300000000000000 T",
         b: "",
         mark: 2,
         then: None,
@@ -276,7 +278,7 @@ fn puts_write_areas(rt: HostRuntime) -> Result<(), Fail> {
 fn recovery_tells_faults(rt: HostRuntime) -> Result<(), Fail> {
     let alloc = rt.alloc();
     for stop in 1..=6 {
-        let area = "01 0100000000000000 5b00000000000000 T";
+        let area = "01 0100000000000000 6300000000000000 T";
         let mut disk = disk_of(alloc, area, "", Some(stop))?;
         let is_fault = is_found(alloc, &mut disk, Finds::Fault);
         let faults = disk.faults();

@@ -7,14 +7,23 @@ use eql_outside::MemDisk;
 use std::alloc::{AllocError, Global};
 use std::test::Fail;
 
-/// The text of a cut whose mark is 1 to 255, in hexadecimal: the query `q`, no mapping, no tiebreaker, a slack of 5, no
+/// The text of a cut whose mark is 1 to 3, in hexadecimal: the query `q`, no mapping, no tiebreaker, a slack of 5, no
 /// shards; the mark, whose first byte stands between these two; no lanes, nothing pending, nothing found, no pipes. It
-/// has 91 bytes, of which 35 stand before the mark.
+/// has 99 bytes, of which 35 stand before the mark, and the last 8 are the checksum.
 const BEFORE_MARK: &str =
-    "45514c4303 0100000000000000 71 0000000000000000 00 0500000000000000 00000000";
+    "45514c4304 0100000000000000 71 0000000000000000 00 0500000000000000 00000000";
 
 const BEHIND_MARK: &str = "000000000000000000000000000000 0000000000000000 0000000000000000
     0000000000000000 0000000000000000 0000000000000000";
+
+/// The checksum of the text with this mark. It was worked out by another program.
+fn checksum_with(mark: u8) -> &'static str {
+    match mark {
+        1 => "3506c7f39a54966b",
+        2 => "29704b1b67f4b773",
+        _ => "dd5dcfbc3394a87b",
+    }
+}
 
 /// The value of a hexadecimal digit, where it is one.
 fn digit(byte: u8) -> Option<u8> {
@@ -60,7 +69,8 @@ pub(crate) fn push_bytes(bytes: &mut Vec<u8>, notation: &str) -> Result<(), Allo
 fn push_text(bytes: &mut Vec<u8>, mark: u8) -> Result<(), AllocError> {
     push_hex(bytes, BEFORE_MARK)?;
     bytes.push(mark)?;
-    push_hex(bytes, BEHIND_MARK)
+    push_hex(bytes, BEHIND_MARK)?;
+    push_hex(bytes, checksum_with(mark))
 }
 
 /// The bytes of a text in hexadecimal, in which a letter `T`, `U` or `V` stands for the text of the cut with the mark 1,

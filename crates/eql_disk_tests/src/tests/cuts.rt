@@ -1,9 +1,11 @@
-//! Two cuts of one run in each of the three formats, written by hand, and the disk that holds them.
+//! Two cuts of one run in each of the four formats, written by hand, and the disk that holds them.
 //!
 //! The run searches the eleven events of the example of sequences in the EQL syntax reference, a line each, with a slack of
-//! 0 and a line at a time. It keeps a cut after five lines and after ten.
+//! 0 and a line at a time. It keeps a cut after five lines and after ten. The digests of what it read were worked out by another
+//! program.
 use crate::tests::bytes::push_bytes;
-use Part::{Bytes, Place, Upper};
+use Part::{Bytes, Digest, Place, Upper};
+use eql_digest::checksum;
 use eql_outside::MemDisk;
 use std::alloc::{AllocError, Global};
 use std::test::Fail;
@@ -15,9 +17,18 @@ enum Part {
     Bytes(&'static str),
     /// The place of an event, in hexadecimal. Format 1 has none.
     Place(&'static str),
-    /// The stages above 128, of which there are none. Only format 3 has them.
+    /// The stages above 128, of which there are none. The formats before the third don't have them.
     Upper,
+    /// The digest of what was read of a shard. Only format 4 has it.
+    Digest(&'static [&'static str]),
 }
+
+/// The digest of no bytes.
+static OF_NOTHING: &[&str] = &[
+    "08c9bcf367e6096a 3ba7ca8485ae67bb 2bf894fe72f36e3c f1361d5f3af54fa5",
+    "d182e6ad7f520e51 1f6c3e2b8c68059b 6bbd41fbabd9831f 79217e1319cde05b",
+    "0000000000000000 0000000000000000",
+];
 
 /// What the cuts say of their run.
 static HEAD: &[Part] = &[
@@ -43,7 +54,13 @@ static HEAD: &[Part] = &[
 static AFTER_FIVE: &[Part] = &[
     // The mark, 5 s. The lane: 506 bytes, open, best 5 s; 5 lines, all accepted.
     Bytes("00f2052a010000000000000000000000"),
-    Bytes("0100000000000000 fa01000000000000 00 01 00f2052a010000000000000000000000"),
+    Bytes("0100000000000000 fa01000000000000"),
+    Digest(&[
+        "c28d5cde2fd48fb8 beb93d8a45329516 adb914de25d2de5d 4fd1483406ba8747",
+        "da969714ebe67643 f7a1fae79db50008 bfcf1008e39616dc 6a67e38900817004",
+        "7d0a000000000000 fa01000000000000",
+    ]),
+    Bytes("00 01 00f2052a010000000000000000000000"),
     Bytes("05000000 05000000 00000000 00000000 00"),
     // Its event at 5 s, of line 5 at 406: of root, stage 2.
     Bytes("0100000000000000"),
@@ -69,7 +86,13 @@ static AFTER_FIVE: &[Part] = &[
 static AFTER_TEN: &[Part] = &[
     // The mark, 10 s. The lane: 1015 bytes, open, best 10 s; 10 lines, all accepted.
     Bytes("00e40b54020000000000000000000000"),
-    Bytes("0100000000000000 f703000000000000 00 01 00e40b54020000000000000000000000"),
+    Bytes("0100000000000000 f703000000000000"),
+    Digest(&[
+        "d6c7e2e45a960a83 28ca02ab40785760 bc5b693987910305 766b39ef44f8bd41",
+        "1a0dc27192c3c4b6 1ca0f48974bf043b 607b544f017d4678 9ce36d776e60b7c4",
+        "636174227d7d0a00 f703000000000000",
+    ]),
+    Bytes("00 01 00e40b54020000000000000000000000"),
     Bytes("0a000000 0a000000 00000000 00000000 00"),
     // Its event at 10 s, of line 10 at 913: of elkbee, stage 3.
     Bytes("0100000000000000"),
@@ -107,12 +130,14 @@ pub enum Kept {
 /// How a cut is written as a text.
 #[derive(Clone, Copy)]
 pub struct Form {
-    /// The format, 1 to 3.
+    /// The format, 1 to 4.
     pub format: u8,
     /// The format that the text tells, which another one would have.
     pub told: u8,
     /// Whether the places are known. Else each is 0.
     pub placed: bool,
+    /// Whether the digest is known. Else it is that of no bytes.
+    pub digested: bool,
 }
 
 impl Form {
@@ -122,25 +147,31 @@ impl Form {
             format,
             told: format,
             placed: true,
+            digested: true,
         }
     }
+}
+
+/// Puts the bytes of several notations.
+fn push_all(bytes: &mut Vec<u8>, notations: &[&str]) -> Result<(), AllocError> {
+    for notation in notations {
+        push_bytes(bytes, *notation)?;
+    }
+    Ok(())
 }
 
 /// Puts those of the parts that a form has.
 fn push_parts(bytes: &mut Vec<u8>, parts: &[Part], form: Form) -> Result<(), AllocError> {
     for part in parts {
-        let notation = match *part {
-            Bytes(notation) => notation,
-            Place(_) if form.format < 2 => "",
-            Place(place) => if form.placed {
-                place
-            } else {
-                "0000000000000000"
-            },
-            Upper if form.format < 3 => "",
-            Upper => "00000000000000000000000000000000",
-        };
-        push_bytes(bytes, notation)?;
+        match *part {
+            Bytes(notation) => push_bytes(bytes, notation)?,
+            Place(place) if form.format > 1 && form.placed => push_bytes(bytes, place)?,
+            Place(_) if form.format > 1 => push_bytes(bytes, "0000000000000000")?,
+            Upper if form.format > 2 => push_bytes(bytes, "00000000000000000000000000000000")?,
+            Digest(numbers) if form.format > 3 && form.digested => push_all(bytes, numbers)?,
+            Digest(_) if form.format > 3 => push_all(bytes, OF_NOTHING)?,
+            Place(_) | Upper | Digest(_) => {}
+        }
     }
     Ok(())
 }
@@ -154,6 +185,10 @@ pub fn text_of(alloc: Global, kept: Kept, form: Form) -> Result<Vec<u8>, AllocEr
     match kept {
         Kept::AfterFive => push_parts(&mut bytes, AFTER_FIVE, form)?,
         Kept::AfterTen => push_parts(&mut bytes, AFTER_TEN, form)?,
+    }
+    if form.format > 3 {
+        let sum = checksum(&bytes);
+        bytes.extend_from_slice(&sum.to_le_bytes())?;
     }
     Ok(bytes)
 }

@@ -21,6 +21,8 @@ struct Held {
     more: u64,
     /// How many bytes it says less.
     less: u64,
+    /// The place of a byte of the text of which a bit is turned round.
+    turned: Option<usize>,
 }
 
 impl Held {
@@ -33,6 +35,7 @@ impl Held {
             form: Form::of(format),
             more: 0,
             less: 0,
+            turned: None,
         }
     }
 
@@ -59,9 +62,28 @@ impl Held {
         Held { less, ..self }
     }
 
+    /// The same, where a bit of the byte at this place of the text is turned round.
+    fn turned(self, at: usize) -> Held {
+        Held {
+            turned: Some(at),
+            ..self
+        }
+    }
+
+    /// The text, as the area has it.
+    fn text(self, alloc: Global) -> Result<Vec<u8>, Fail> {
+        let mut text = text_of(alloc, self.kept, self.form)?;
+        if let Some(at) = self.turned {
+            if let Some(byte) = text.get_mut(at) {
+                *byte ^= 1;
+            }
+        }
+        Ok(text)
+    }
+
     /// The bytes of the area.
     fn bytes(self, alloc: Global) -> Result<Vec<u8>, Fail> {
-        let text = text_of(alloc, self.kept, self.form)?;
+        let text = self.text(alloc)?;
         let length = (text.len() as u64)
             .saturating_add(self.more)
             .saturating_sub(self.less);
@@ -92,7 +114,7 @@ fn disk_row(name: &'static str, a: Held, b: Held, finds: Finds) -> Row {
 }
 
 /// Where several cuts stand, the one that counts.
-fn counting_rows() -> [Row; 8] {
+fn counting_rows() -> [Row; 10] {
     let first = Held::new(1, AfterFive, 1);
     [
         disk_row(
@@ -120,9 +142,21 @@ fn counting_rows() -> [Row; 8] {
             Cut(AfterTen, 3, Area::B, 2),
         ),
         disk_row(
+            "format 4 over format 1",
+            first,
+            Held::new(2, AfterTen, 4),
+            Cut(AfterTen, 4, Area::B, 2),
+        ),
+        disk_row(
+            "format 4 over format 3",
+            Held::new(1, AfterFive, 3),
+            Held::new(2, AfterTen, 4),
+            Cut(AfterTen, 4, Area::B, 2),
+        ),
+        disk_row(
             "the greater generation in the older format",
             Held::new(3, AfterFive, 1),
-            Held::new(2, AfterTen, 3),
+            Held::new(2, AfterTen, 4),
             Cut(AfterFive, 1, Area::A, 3),
         ),
         disk_row(
@@ -139,7 +173,7 @@ fn counting_rows() -> [Row; 8] {
         ),
         disk_row(
             "a closed area that is damaged",
-            Held::new(9, AfterFive, 3).telling(4).closed(),
+            Held::new(9, AfterFive, 4).telling(5).closed(),
             Held::new(2, AfterTen, 2),
             Cut(AfterTen, 2, Area::B, 2),
         ),
@@ -151,15 +185,21 @@ fn damaged_row(name: &'static str, b: Held, at: u64) -> Row {
     disk_row(name, Held::new(1, AfterFive, 1), b, Damaged(1, at))
 }
 
-/// Damaged texts. Where one tells another format, what is read as a place, as a number of routes or as stages above 128 is
-/// what stands there in its own format, up to a byte that can't be read.
-fn damaged_rows() -> [Row; 15] {
+/// Damaged texts. Where one tells another format, what is read as a place, as a digest, as a number of routes or as stages above
+/// 128 is what stands there in its own format, up to a byte that can't be read. A text in format 4 with any bit turned round has
+/// another checksum, which stands at 846.
+fn damaged_rows() -> [Row; 23] {
     let first = Held::new(2, AfterTen, 1);
     let second = Held::new(2, AfterTen, 2);
     let third = Held::new(2, AfterTen, 3);
+    let fourth = Held::new(2, AfterTen, 4);
     [
         damaged_row("format 1 told as 0", first.telling(0), 4),
-        damaged_row("format 3 told as 4", third.telling(4), 4),
+        damaged_row("format 4 told as 5", fourth.telling(5), 4),
+        // In place of a truth value stands the first byte of the digest.
+        damaged_row("format 4 told as 3", fourth.telling(3), 427),
+        // In place of a value's kind stands a byte of the time of line 6.
+        damaged_row("format 3 told as 4", third.telling(4), 644),
         // In place of a value's kind stands the first letter of the key of the lane's event.
         damaged_row("format 1 told as 2", first.telling(2), 520),
         damaged_row("format 1 told as 3", first.telling(3), 520),
@@ -173,6 +213,12 @@ fn damaged_rows() -> [Row; 15] {
         damaged_row("a byte of format 1 less", first.shorter(1), 710),
         damaged_row("a byte of format 2 less", second.shorter(1), 742),
         damaged_row("a byte of format 3 less", third.shorter(1), 758),
+        damaged_row("a byte of format 4 less", fourth.shorter(1), 846),
+        damaged_row("no checksum", fourth.shorter(8), 846),
+        damaged_row("a bit of the mark", fourth.turned(395), 846),
+        damaged_row("a bit of the offset", fourth.turned(419), 846),
+        damaged_row("a bit of the digest", fourth.turned(427), 846),
+        damaged_row("a bit of the checksum", fourth.turned(853), 846),
         damaged_row("the head of format 1 alone", first.shorter(713), 5),
         damaged_row("format 1 without its end", first.longer(1), 0),
         damaged_row("format 2 without its end", second.longer(1), 0),
@@ -184,20 +230,22 @@ fn damaged_rows() -> [Row; 15] {
     ]
 }
 
-/// The text in format 3 of a cut that was read in a format: in the first its places are 0.
-fn third_of(alloc: Global, kept: Kept, format: u8) -> Result<Vec<u8>, AllocError> {
-    let third = Form::of(3);
+/// The text in format 4 of a cut that was read in a format: in the first its places are 0, and in the first three its digest is
+/// that of no bytes.
+fn fourth_of(alloc: Global, kept: Kept, format: u8) -> Result<Vec<u8>, AllocError> {
+    let fourth = Form::of(4);
     text_of(
         alloc,
         kept,
         Form {
             placed: format > 1,
-            ..third
+            digested: format > 3,
+            ..fourth
         },
     )
 }
 
-/// Whether this cut in this format was found, by its text in format 3.
+/// Whether this cut in this format was found, by its text in format 4.
 fn is_cut(alloc: Global, found: &Recovered, kept: Kept, format: u8) -> Result<bool, Fail>
     requires { IsSound found.now }
 {
@@ -207,8 +255,8 @@ fn is_cut(alloc: Global, found: &Recovered, kept: Kept, format: u8) -> Result<bo
     let Ok(text) = encode(alloc, cut) else {
         return Err(Fail::from("memory"));
     };
-    let third = third_of(alloc, kept, format)?;
-    Ok(found.format == format && text.as_slice() == third.as_slice())
+    let fourth = fourth_of(alloc, kept, format)?;
+    Ok(found.format == format && text.as_slice() == fourth.as_slice())
 }
 
 /// Whether this was found.
@@ -270,7 +318,7 @@ fn texts_in_another_format_are_damaged(rt: HostRuntime) -> Result<(), Fail> {
 #[test]
 fn disk_of_each_format_is_found(rt: HostRuntime) -> Result<(), Fail> {
     let alloc = rt.alloc();
-    for format in 1..=3u8 {
+    for format in 1..=4u8 {
         let disk = disk_in(alloc, format)?;
         let newer = Cut(AfterTen, format, Area::B, 2);
         assert!(rt; is_found(alloc, disk, newer)?, "format {format}");
@@ -296,7 +344,7 @@ fn put_again(alloc: Global, disk: &mut MemDisk) -> Result<(), Fail> {
     }
 }
 
-/// The bytes of both areas of the disk of a format once what it holds was put again: the older area has the cut in format 3
+/// The bytes of both areas of the disk of a format once what it holds was put again: the older area has the cut in format 4
 /// with the generation 3.
 fn areas_after_put(alloc: Global, format: u8) -> Result<(Vec<u8>, Vec<u8>), Fail> {
     let mut disk = disk_in(alloc, format)?;
@@ -308,12 +356,12 @@ fn areas_after_put(alloc: Global, format: u8) -> Result<(Vec<u8>, Vec<u8>), Fail
 }
 
 #[test]
-fn puts_write_format_3(rt: HostRuntime) -> Result<(), Fail> {
+fn puts_write_format_4(rt: HostRuntime) -> Result<(), Fail> {
     let alloc = rt.alloc();
-    for format in 1..=3u8 {
+    for format in 1..=4u8 {
         let (a, b) = areas_after_put(alloc, format)?;
-        let third = third_of(alloc, AfterTen, format)?;
-        let newer = area_of(alloc, 1, 3, third.len() as u64, &third)?;
+        let fourth = fourth_of(alloc, AfterTen, format)?;
+        let newer = area_of(alloc, 1, 3, fourth.len() as u64, &fourth)?;
         assert_eq!(rt; a.as_slice(), newer.as_slice());
         let older = Held::new(2, AfterTen, format).bytes(alloc)?;
         assert_eq!(rt; b.as_slice(), older.as_slice());
