@@ -1,11 +1,15 @@
 -- A cut is refused for one cause, and isn't where a run may begin with it.
 use Rattle.std.proofs.Common.{◌≡◌, ◌≤◌, ◌<◌, ◌+◌, ◌-◌, ℕ, ℤ, zero, suc, List, [], ◌∷◌, ◌++◌, Option, Some, true, false, refl, ap, sym, arith, ◌∙◌, subst, length, map, inl, inr, ◌⊎◌}
-use Rattle.std.specs.Prelude.{Bool, if◌then◌else◌, ◌==◌, IsTrue, take, drop}
-use Rattle.std.specs.List.{slice_get}
+use Rattle.std.specs.Prelude.{Bool, if◌then◌else◌, ◌==◌, Contains, IsTrue, take, drop}
+use Rattle.std.specs.List.{flat_map, slice_get}
 use Rattle.std.specs.Option.{option_map}
-use Rattle.std.proofs.lemmas.Bool.{cases_order}
+use Rattle.std.proofs.lemmas.Bool.{cases_order, false≢true}
 use Rattle.std.proofs.lemmas.Option.{none-some, same_Some, slice_get-map}
+use Rattle.eql_digest.specs.Digests.{IsDigestOf, start, with_bytes}
+use Rattle.eql_values.specs.declared.cut.Counts.{Counts}
 use Rattle.eql_values.specs.declared.cut.LaneCut.{LaneCut}
+use Rattle.eql_values.specs.declared.found.Holder.{Holder}
+use Rattle.eql_values.specs.declared.order.OrderKey.{OrderKey}
 use Rattle.eql_values.specs.declared.order.Mark.{Mark}
 use Rattle.eql_values.specs.declared.order.Mark.TheVariants.{At}
 use Rattle.eql_values.specs.Accepted.{Reads}
@@ -21,16 +25,17 @@ use Rattle.eql_cut.specs.declared.cut.Cut.{Cut}
 use Rattle.eql_cut.specs.declared.cut.CutHead.{CutHead}
 use Rattle.eql_cut.specs.Agreeing.{difference}
 use Rattle.eql_cut.specs.Domain.{kept_by}
-use Rattle.eql_cut.specs.Placing.{NamesLine, lifted_lane}
+use Rattle.eql_cut.specs.Placing.{NamesLine, lifted_lane, lines_at, state_orders}
 use Rattle.eql_cut.specs.Placed.{ShardHasLine, place_in_texts, cut_at_places}
 use Rattle.eql_cut.specs.PlacedLaws.{NamedWereRead, NamesStay}
-use Rattle.eql_runs.specs.CutRefusals.{CutRefusal, CutRefuses, FoundRefuses, IsLostLine, NoneIsRefusedBefore, ShardRefuses, StandsBefore, by_found, by_shard, differs, has_no_line, head_damaged, head_differs, is_foreign, is_grown, is_short, is_unfit, no_line, short, text_damaged}
+use Rattle.eql_runs.specs.CutRefusals.{CutRefusal, CutRefuses, FoundRefuses, HasItsBytes, IsLostLine, NoneIsRefusedBefore, ShardRefuses, StandsBefore, by_found, by_shard, differs, has_no_line, has_other_bytes, head_damaged, head_differs, is_foreign, is_grown, is_short, is_unfit, no_line, short, text_damaged}
 use Rattle.eql_runs.specs.Refusals.{Refusal}
 use Rattle.eql_runs.specs.Refusals as refusal
 use Rattle.eql_runs.specs.RunLaws.{IsSameRefusal, other_place, same}
 use Rattle.eql_runs.specs.Searches.{Search, nanos_in, reads_of, run_of}
-use Rattle.eql_runs.specs.Starts.{BeginsWith, IsCutOf, IsHeadOf, OnDisk, a_cut, bad_head, bad_text, meant_by, not_ours, nothing_kept}
+use Rattle.eql_runs.specs.Starts.{BeginsWith, IsCutOf, IsHeadOf, OnDisk, a_cut, bad_head, bad_text, cut_over, keeps_digests, meant_by, not_ours, nothing_kept}
 use Rattle.eql_runs.proofs.Heads.{no_difference, one_head}
+use Rattle.eql_runs.proofs.Overs.{lane_above, orders_over}
 
 -- the laws on which this rests
 pub record CutLaws : Type 0 where
@@ -60,28 +65,45 @@ one_line cut shard offset text a b lost other = by (cases_order a b)
     by (inr (inl less)) = absurd (least_line cut shard offset text a b lost other less)
     by (inr (inr more)) = absurd (least_line cut shard offset text b a other lost more)
 
+-- the first format keeps no digests, so no bytes differ from it
+bytes_in_first : (format : ℕ) (lane : LaneCut) (text : List ℕ) → format ≡ 1 → HasItsBytes format lane text
+bytes_in_first format lane text first keeps = absurd (false≢true (sym (ap keeps_digests first) ∙ keeps))
+
 one_of_shard : (format : ℕ) (cut : Cut) (shard : ℕ) (text : List ℕ) (r s : CutRefusal) → ShardRefuses format cut shard text r
     → ShardRefuses format cut shard text s → r ≡ s
 one_of_shard format cut shard text _ _ (is_short a is less) (is_short b also fewer) =
     ap (λ (x : LaneCut). short shard x.offset (length text)) (one_lane cut shard a b is also)
 one_of_shard format cut shard text _ _ (is_short a is less) (has_no_line b also f enough line lost) =
     let e : a.offset ≡ b.offset = ap LaneCut.offset (one_lane cut shard a b is also) in absurd (omega (arith, e, less, enough))
-one_of_shard format cut shard text _ _ (is_short a is less) (is_grown b also closed more all) =
+one_of_shard format cut shard text _ _ (is_short a is less) (has_other_bytes b also enough unlike) =
+    let e : a.offset ≡ b.offset = ap LaneCut.offset (one_lane cut shard a b is also) in absurd (omega (arith, e, less, enough))
+one_of_shard format cut shard text _ _ (is_short a is less) (is_grown b also closed more bytes all) =
     let e : a.offset ≡ b.offset = ap LaneCut.offset (one_lane cut shard a b is also) in absurd (omega (arith, e, less, more))
+one_of_shard format cut shard text _ _ (has_other_bytes b also enough unlike) (is_short a is less) =
+    let e : a.offset ≡ b.offset = ap LaneCut.offset (one_lane cut shard a b is also) in absurd (omega (arith, e, less, enough))
+one_of_shard format cut shard text _ _ (has_other_bytes a is enough unlike) (has_other_bytes b also too nor) = refl
+one_of_shard format cut shard text _ _ (has_other_bytes a is enough unlike) (has_no_line b also f too line lost) =
+    absurd (unlike (bytes_in_first format a text f))
+one_of_shard format cut shard text _ _ (has_other_bytes a is enough unlike) (is_grown b also closed more bytes all) =
+    absurd (unlike (subst (λ (x : LaneCut). HasItsBytes format x text) (one_lane cut shard b a also is) bytes))
 one_of_shard format cut shard text _ _ (has_no_line b also f enough line lost) (is_short a is less) =
     let e : a.offset ≡ b.offset = ap LaneCut.offset (one_lane cut shard a b is also) in absurd (omega (arith, e, less, enough))
+one_of_shard format cut shard text _ _ (has_no_line b also f too line lost) (has_other_bytes a is enough unlike) =
+    absurd (unlike (bytes_in_first format a text f))
 one_of_shard format cut shard text _ _ (has_no_line a is f enough line lost) (has_no_line b also g too other gone) =
     let e : a.offset ≡ b.offset = ap LaneCut.offset (one_lane cut shard a b is also) in
     ap (no_line shard) (one_line cut shard b.offset text line other (subst (λ (o : ℕ). IsLostLine cut shard o text line) e lost) gone)
-one_of_shard format cut shard text _ _ (has_no_line a is f enough line lost) (is_grown b also closed more all) =
+one_of_shard format cut shard text _ _ (has_no_line a is f enough line lost) (is_grown b also closed more bytes all) =
     let e : b.offset ≡ a.offset = ap LaneCut.offset (one_lane cut shard b a also is) in
     absurd (lost.lost (subst (λ (o : ℕ). StandsBefore o text line) e (all f line lost.named)))
-one_of_shard format cut shard text _ _ (is_grown b also closed more all) (is_short a is less) =
+one_of_shard format cut shard text _ _ (is_grown b also closed more bytes all) (is_short a is less) =
     let e : a.offset ≡ b.offset = ap LaneCut.offset (one_lane cut shard a b is also) in absurd (omega (arith, e, less, more))
-one_of_shard format cut shard text _ _ (is_grown b also closed more all) (has_no_line a is f enough line lost) =
+one_of_shard format cut shard text _ _ (is_grown b also closed more bytes all) (has_other_bytes a is enough unlike) =
+    absurd (unlike (subst (λ (x : LaneCut). HasItsBytes format x text) (one_lane cut shard b a also is) bytes))
+one_of_shard format cut shard text _ _ (is_grown b also closed more bytes all) (has_no_line a is f enough line lost) =
     let e : b.offset ≡ a.offset = ap LaneCut.offset (one_lane cut shard b a also is) in
     absurd (lost.lost (subst (λ (o : ℕ). StandsBefore o text line) e (all f line lost.named)))
-one_of_shard format cut shard text _ _ (is_grown a is closed more all) (is_grown b also shut further whole) = refl
+one_of_shard format cut shard text _ _ (is_grown a is closed more bytes all) (is_grown b also shut further others whole) = refl
 
 one_shard : (format : ℕ) (cut : Cut) (texts : List (List ℕ)) (a b : ℕ) (t u : List ℕ) (r s : CutRefusal) → slice_get texts a ≡ Some t
     → slice_get texts b ≡ Some u → NoneIsRefusedBefore format cut a texts → NoneIsRefusedBefore format cut b texts → ShardRefuses format cut a t r
@@ -187,25 +209,55 @@ record MeantLane (other : Cut) (shard : ℕ) (lane : LaneCut) : Type 0 where
   there : slice_get other.lanes shard ≡ Some meant
   edges : SameEdges lane meant
 
-meant_if : (b : Bool) (texts : List (List ℕ)) (cut : Cut) (shard : ℕ) (lane : LaneCut) → slice_get cut.lanes shard ≡ Some lane
-    → MeantLane (if b then cut_at_places texts cut else cut) shard lane
-meant_if false texts cut shard lane is = record { meant = lane; there = is; edges = record { offset = refl; closed = refl; lines = refl } }
-meant_if true texts cut shard lane is = record {
-  meant = lifted_lane (place_in_texts texts) lane;
-  there = slice_get-map (lifted_lane (place_in_texts texts)) cut.lanes shard ∙ ap (option_map (lifted_lane (place_in_texts texts))) is;
-  edges = record { offset = refl; closed = refl; lines = refl };
-}
+-- the lane of the cut whose digests are those of the texts
+lane_of_over : (texts : List (List ℕ)) (cut : Cut) (shard : ℕ) (lane : LaneCut) → slice_get cut.lanes shard ≡ Some lane
+    → MeantLane (cut_over texts cut) shard lane
+lane_of_over texts cut shard lane is =
+    let over = lane_above texts cut.lanes shard lane is in
+    record {
+      meant = over.other;
+      there = over.there;
+      edges = record { offset = over.is_same.offset; closed = over.is_same.closed; lines = ap (λ (c : Counts). c.lines) over.is_same.counts };
+    }
 
-names_if : (laws : CutLaws) (b : Bool) (texts : List (List ℕ)) (cut : Cut) (shard line : ℕ) → NamesLine cut shard line
-    → NamesLine (if b then cut_at_places texts cut else cut) shard line
-names_if laws false texts cut shard line h = h
-names_if laws true texts cut shard line h = (laws.names_stay (place_in_texts texts) cut shard line).1 h
+-- and that of the cut with places too
+lane_of_placed : (texts : List (List ℕ)) (cut : Cut) (shard : ℕ) (lane : LaneCut) → slice_get cut.lanes shard ≡ Some lane
+    → MeantLane (cut_over texts (cut_at_places texts cut)) shard lane
+lane_of_placed texts cut shard lane is =
+    let placed : LaneCut = lifted_lane (place_in_texts texts) lane in
+    let over = lane_of_over texts (cut_at_places texts cut) shard placed
+    (slice_get-map (lifted_lane (place_in_texts texts)) cut.lanes shard ∙ ap (option_map (lifted_lane (place_in_texts texts))) is) in
+    record { meant = over.meant; there = over.there; edges = record { offset = over.edges.offset; closed = over.edges.closed; lines = over.edges.lines } }
+
+meant_if : (digests first : Bool) (texts : List (List ℕ)) (cut : Cut) (shard : ℕ) (lane : LaneCut) → slice_get cut.lanes shard ≡ Some lane
+    → MeantLane (if digests then cut else if first then cut_over texts (cut_at_places texts cut) else cut_over texts cut) shard lane
+meant_if true first texts cut shard lane is = record { meant = lane; there = is; edges = record { offset = refl; closed = refl; lines = refl } }
+meant_if false false texts cut shard lane is = lane_of_over texts cut shard lane is
+meant_if false true texts cut shard lane is = lane_of_placed texts cut shard lane is
+
+-- and they name the same lines
+names_over : (texts : List (List ℕ)) (cut : Cut) (shard line : ℕ) → NamesLine cut shard line → NamesLine (cut_over texts cut) shard line
+names_over texts cut shard line h =
+    subst (λ (lanes : List OrderKey). Contains (lines_at shard (lanes ++ (flat_map (λ (h : Holder). h.chain) cut.holders ++ flat_map state_orders cut.book.pipes))) line)
+    (sym (orders_over texts cut.lanes)) h
+
+names_if : (laws : CutLaws) (digests first : Bool) (texts : List (List ℕ)) (cut : Cut) (shard line : ℕ) → NamesLine cut shard line
+    → NamesLine (if digests then cut else if first then cut_over texts (cut_at_places texts cut) else cut_over texts cut) shard line
+names_if laws true first texts cut shard line h = h
+names_if laws false false texts cut shard line h = names_over texts cut shard line h
+names_if laws false true texts cut shard line h =
+    names_over texts (cut_at_places texts cut) shard line ((laws.names_stay (place_in_texts texts) cut shard line).1 h)
+
+-- a cut with digests stands for itself
+pub meant_alone : (format : ℕ) (texts : List (List ℕ)) (cut : Cut) → keeps_digests format ≡ true → meant_by format texts cut ≡ cut
+meant_alone format texts cut keeps =
+    ap (λ (b : Bool). if b then cut else if format == 1 then cut_over texts (cut_at_places texts cut) else cut_over texts cut) keeps
 
 pub own_shard : (search : Search) (texts : List (List ℕ)) (format : ℕ) (cut : Cut) (is : IsCutOf search cut.head.slack texts (meant_by format texts cut))
     (shard : ℕ) (text : List ℕ) (lane : LaneCut) → slice_get texts shard ≡ Some text → slice_get cut.lanes shard ≡ Some lane
     → ShardAt is.shards shard text lane
 own_shard search texts format cut is shard text lane there has =
-    let m = meant_if (format == 1) texts cut shard lane has in
+    let m = meant_if (keeps_digests format) (format == 1) texts cut shard lane has in
     let lanes = ap Kept.lanes is.kept_is in
     let slack = Some (nanos_in cut.head.slack) in
     let mark = At (meant_by format texts cut).mark in
@@ -228,12 +280,35 @@ drop_front [] [] = refl
 drop_front [] (x ∷ b) = refl
 drop_front (x ∷ a) b = drop_front a b
 
-long_enough : (shards : List ReadTo) (shard : ℕ) (text : List ℕ) (lane : LaneCut) → ShardAt shards shard text lane → lane.offset ≤ length text
+-- a cut keeps the digests of the bytes that were read of its texts
+digest_at : (reads : Reads) (slack : Option ℤ) (first : ℕ) (mark : Mark) (shards : List ReadTo) (shard : ℕ) (text : List ℕ) (lane : LaneCut)
+    → slice_get (map whole shards) shard ≡ Some text → slice_get (lanes_from reads slack first mark shards) shard ≡ Some lane
+    → IsDigestOf lane.digest (take lane.offset text)
+digest_at reads slack first mark [] shard text lane is there = absurd (none-some text is)
+digest_at reads slack first mark (r ∷ shards) zero text lane is there =
+    let e : lane_at reads slack first mark r ≡ lane = same_Some (lane_at reads slack first mark r) lane there in
+    let t : take lane.offset text ≡ r.first =
+    ap (take lane.offset) (sym (same_Some (whole r) text is)) ∙ ap (λ (n : ℕ). take n (whole r)) (sym (ap LaneCut.offset e)) ∙ take_front r.first r.rest in
+    sym (ap LaneCut.digest e) ∙ ap (with_bytes start) (sym t)
+digest_at reads slack first mark (r ∷ shards) (suc shard) text lane is there =
+    digest_at reads slack (first + 1) mark shards shard text lane is there
+
+-- so where the format keeps them, each text has the bytes of an own cut
+pub own_bytes : (search : Search) (texts : List (List ℕ)) (format : ℕ) (cut : Cut) → IsCutOf search cut.head.slack texts (meant_by format texts cut)
+    → (shard : ℕ) (text : List ℕ) (lane : LaneCut) → slice_get texts shard ≡ Some text → slice_get cut.lanes shard ≡ Some lane
+    → HasItsBytes format lane text
+own_bytes search texts format cut meant shard text lane there has keeps =
+    let is : IsCutOf search cut.head.slack texts cut = subst (IsCutOf search cut.head.slack texts) (meant_alone format texts cut keeps) meant in
+    digest_at (reads_of search) (Some (nanos_in cut.head.slack)) 0 (At cut.mark) is.shards shard text lane
+    (subst (λ (ts : List (List ℕ)). slice_get ts shard ≡ Some text) (sym is.texts_are) there)
+    (ap (λ (ls : List LaneCut). slice_get ls shard) (sym (ap Kept.lanes is.kept_is)) ∙ has)
+
+pub long_enough : (shards : List ReadTo) (shard : ℕ) (text : List ℕ) (lane : LaneCut) → ShardAt shards shard text lane → lane.offset ≤ length text
 long_enough shards shard text lane h =
     let e : length text ≡ length h.r.first + length h.r.rest = ap length h.whole_is ∙ append_length h.r.first h.r.rest in
     omega (arith, e, h.offset)
 
-ends_there : (shards : List ReadTo) (shard : ℕ) (text : List ℕ) (lane : LaneCut) → ShardAt shards shard text lane → lane.closed ≡ true
+pub ends_there : (shards : List ReadTo) (shard : ℕ) (text : List ℕ) (lane : LaneCut) → ShardAt shards shard text lane → lane.closed ≡ true
     → length text ≡ lane.offset
 ends_there shards shard text lane h closed =
     let none : length h.r.rest ≡ 0 = ap length (h.is_place.at_end (sym h.closed ∙ closed)) in
@@ -271,7 +346,7 @@ named_before : (laws : CutLaws) (search : Search) (texts : List (List ℕ)) (for
 named_before laws search texts format cut reading is shard text lane line there has named =
     stands_before is.shards shard text lane line (own_shard search texts format cut is shard text lane there has)
     (laws.were_read (run_of search cut.head.slack) (reads_of search) (meant_by format texts cut).mark is.shards (meant_by format texts cut) reading
-    is.are_places is.safe is.kept_is shard line (names_if laws (format == 1) texts cut shard line named))
+    is.are_places is.safe is.kept_is shard line (names_if laws (keeps_digests format) (format == 1) texts cut shard line named))
 
 own_or_refused : (laws : CutLaws) (search : Search) (texts : List (List ℕ)) (format : ℕ) (cut : Cut) → IsReading (reads_of search)
     → IsCutOf search cut.head.slack texts (meant_by format texts cut) → (shard : ℕ) (text : List ℕ) (r : CutRefusal)
@@ -281,7 +356,9 @@ own_or_refused laws search texts format cut reading is shard text _ there (is_sh
     omega (arith, less, enough)
 own_or_refused laws search texts format cut reading is shard text _ there (has_no_line lane has f enough line lost) =
     lost.lost (named_before laws search texts format cut reading is shard text lane line there has lost.named)
-own_or_refused laws search texts format cut reading is shard text _ there (is_grown lane has closed more all) =
+own_or_refused laws search texts format cut reading is shard text _ there (has_other_bytes lane has enough unlike) =
+    unlike (own_bytes search texts format cut is shard text lane there has)
+own_or_refused laws search texts format cut reading is shard text _ there (is_grown lane has closed more bytes all) =
     let end = ends_there is.shards shard text lane (own_shard search texts format cut is shard text lane there has) closed in
     omega (arith, more, end)
 

@@ -1,13 +1,16 @@
 -- Nothing is left out: whatever the words, the files and the bytes of the disk are, the words are no command, or the run is refused, or
 -- it writes.
 use Rattle.std.proofs.Common.{◌≡◌, ◌≤◌, ℕ, ◌⊎◌, inl, inr, List, [], Option, Some, None, true, false, refl, ap, sym, arith, ◌∙◌, subst, length}
-use Rattle.std.specs.Prelude.{All, codes, encode_utf8_all, get_or, is_some, ◌++◌}
+use Rattle.std.specs.Prelude.{All, Bool, codes, encode_utf8_all, get_or, is_some, ◌++◌}
 use Rattle.std.proofs.lemmas.Bool.{false≢true}
 use Rattle.eql_laws.specs.Books.{greatest_shards}
 use Rattle.eql_laws.specs.Counting.{IsShardText}
+use Rattle.eql_laws.specs.Fitting.{Fits}
+use Rattle.eql_laws.specs.Places.{RestIsLate}
 use Rattle.eql_cut.specs.declared.cut.Cut.{Cut}
 use Rattle.eql_cut.specs.declared.cut.CutHead.{CutHead}
 use Rattle.eql_cut.specs.Agreeing.{difference}
+use Rattle.eql_cut.specs.Domain.{kept_by}
 use Rattle.eql_cut.specs.Lifting.{FirstFormatHasNoPlaces}
 use Rattle.eql_cut.specs.Placing.{IsUnplaced, orders_in}
 use Rattle.eql_cut.specs.Whole.{IsText, TextsAreDecided}
@@ -19,21 +22,23 @@ use Rattle.eql_words.specs.declared.commands.Command.TheVariants as command
 use Rattle.eql_words.specs.declared.commands.Find.{Find}
 use Rattle.eql_words.specs.Bounds.{CommandsAreBounded}
 use Rattle.eql_words.specs.Commands.{command_of}
-use Rattle.eql_runs.specs.CutRefusals.{CutRefusal, CutRefuses, by_found, damaged, differs, foreign, head_damaged, head_differs, is_foreign, text_damaged}
+use Rattle.eql_runs.specs.CutRefusals.{CutRefusal, CutRefuses, NoneIsRefusedBefore, by_found, by_shard, damaged, differs, foreign, head_damaged, head_differs, is_foreign, is_unfit, text_damaged, unfit}
 use Rattle.eql_runs.specs.Files.{Files, IsWithin}
 use Rattle.eql_runs.specs.Refusals.{Names, Refusal}
 use Rattle.eql_runs.specs.Refusals as refusal
 use Rattle.eql_runs.specs.Runs.{AreTrusted, AreWithin, IsRefused, RefusesCut, Runs, Searches, Trusts, Writes, by_cut, by_files}
 use Rattle.eql_runs.specs.RunLaws.{NoRunIsLeftOut}
-use Rattle.eql_runs.specs.Searches.{Search, rest_of, report_of}
-use Rattle.eql_runs.specs.Starts.{BeginsWith, IsHeadOf, IsTrusted, OnDisk, StandsFor, a_cut, bad_head, bad_text, listed_on, not_ours, nothing_kept, start_asked, start_for}
+use Rattle.eql_runs.specs.Searches.{Search, rest_of, report_of, run_of}
+use Rattle.eql_runs.specs.Starts.{BeginsWith, IsHeadOf, IsTrusted, OnDisk, StandsFor, a_cut, bad_head, bad_text, keeps_digests, listed_on, not_ours, nothing_kept, start_asked, start_for}
 use Rattle.eql_runs.specs.Summaries.{made_lines}
 use Rattle.eql_runs.proofs.Counting.{texts_count}
 use Rattle.eql_runs.proofs.Covering.{CoverLaws, NoneOrSome, none_or_some, HasAll, AllOrRefused, texts_there, all_or_refused}
+use Rattle.eql_runs.proofs.Deciding.{Decided, FirstRefused, FitLaws, fits_decided, shards_decided}
 use Rattle.eql_runs.proofs.Heads.{SameLaws, same_heads}
 use Rattle.eql_runs.proofs.MadeQuery.{made_is_a_search}
 use Rattle.eql_runs.proofs.OnDisks.{something_on_disk}
 use Rattle.eql_runs.proofs.OwnCuts.{OwnLaws, own_cut_fits}
+use Rattle.eql_runs.proofs.PutCuts.{tested_is_own}
 
 -- the files that commands name
 abbrev find_names : Find → Names
@@ -54,6 +59,8 @@ pub record EndLaws : Type 0 where
   pub bounded : CommandsAreBounded
   pub unplaced : FirstFormatHasNoPlaces
   pub decided : TextsAreDecided
+  pub late : RestIsLate
+  pub fit : FitLaws
 
 -- ---- a search whose files are all there
 pub record TheSearch (find : Find) (files : Files) : Type 0 where
@@ -105,12 +112,12 @@ all_shards : (texts : List (List ℕ)) → All IsWithin texts → All IsShardTex
 all_shards texts all k d h = within_shard (get_or texts k d) (all k d h)
 
 module _ (laws : EndLaws) (find : Find) (files : Files) (the : TheSearch find files) (few : length the.texts ≤ greatest_shards) where
-  -- by a cut with the head of the search
-  own_cut : (format generation : ℕ) (cut : Cut) (f : Found) → StandsFor (a_cut format generation cut) f → IsHeadOf the.search (length the.texts) cut.head
-      → IsTrusted the.search the.texts (a_cut format generation cut) → All IsWithin the.texts
+  -- by a cut with the head of the search, in a format without digests
+  undigested_cut : (format generation : ℕ) (cut : Cut) (f : Found) → StandsFor (a_cut format generation cut) f → IsHeadOf the.search (length the.texts) cut.head
+      → keeps_digests format ≡ false → IsTrusted the.search the.texts (a_cut format generation cut) → All IsWithin the.texts
       → BeginsWith the.search the.texts (a_cut format generation cut)
-  own_cut format generation cut f stands head trusted within =
-      let is = trusted head in
+  undigested_cut format generation cut f stands head none trusted within =
+      let is = (trusted head).without none in
       let bare : format ≡ 1 → IsUnplaced (orders_in cut) =
       λ one. laws.unplaced cut stands.1 (subst (λ (n : ℕ). IsText n cut stands.1) one stands.3.is) in
       record {
@@ -118,6 +125,48 @@ module _ (laws : EndLaws) (find : Find) (files : Files) (the : TheSearch find fi
         fits = own_cut_fits laws.own the.search the.texts format cut the.searches.checked.checked few (all_shards the.texts within) bare head.shards_are is;
         is_cut = is;
       }
+
+  -- a run begins with a cut that was found, where it is such as BeginsWith says
+  begun : (on : OnDisk) → start_for find on ≡ on
+      → (IsTrusted the.search the.texts on → All IsWithin the.texts → BeginsWith the.search the.texts on) → CutOrRuns find files on
+  begun on start begins =
+      inr (λ trusts within. writes_from find files on the
+      (subst (BeginsWith the.search the.texts) (sym start)
+      (begins (subst (IsTrusted the.search the.texts) start (trusts the.search the.texts the.searches)) (within the.search the.texts the.searches))))
+
+  refused_by : (on : OnDisk) (r : CutRefusal) → start_for find on ≡ on → CutRefuses the.search the.texts on r → CutOrRuns find files on
+  refused_by on r start h = refuses_from find files on the r (subst (λ (x : OnDisk). CutRefuses the.search the.texts x r) (sym start) h)
+
+  -- by a cut with digests, which is tested
+  by_shards : (format generation : ℕ) (cut : Cut) → IsHeadOf the.search (length the.texts) cut.head → keeps_digests format ≡ true
+      → start_for find (a_cut format generation cut) ≡ a_cut format generation cut → Fits (run_of the.search cut.head.slack) (length the.texts) (kept_by cut)
+      → FirstRefused format cut the.texts ⊎ NoneIsRefusedBefore format cut (length the.texts) the.texts → CutOrRuns find files (a_cut format generation cut)
+  by_shards format generation cut head keeps start fits (inl first) =
+      refused_by (a_cut format generation cut) first.refusal start
+      (by_shard format generation cut head fits first.shard first.text first.there first.none first.refusal first.refused)
+  by_shards format generation cut head keeps start fits (inr none) =
+      begun (a_cut format generation cut) start (λ trusted within.
+      tested_is_own laws.late the.search the.texts format cut (record { head = head; fits = fits; shards = none }) (trusted head))
+
+  by_fit : (format generation : ℕ) (cut : Cut) → IsHeadOf the.search (length the.texts) cut.head → keeps_digests format ≡ true
+      → start_for find (a_cut format generation cut) ≡ a_cut format generation cut
+      → Decided (Fits (run_of the.search cut.head.slack) (length the.texts) (kept_by cut)) → CutOrRuns find files (a_cut format generation cut)
+  by_fit format generation cut head keeps start (inl fits) =
+      by_shards format generation cut head keeps start fits (shards_decided format cut the.texts keeps (length the.texts))
+  by_fit format generation cut head keeps start (inr unlike) =
+      refused_by (a_cut format generation cut) unfit start
+      (by_found (a_cut format generation cut) cut.head unfit head
+      (is_unfit format generation cut refl
+      (λ (fits : Fits (run_of the.search cut.head.slack) cut.head.shards (kept_by cut)).
+      unlike (subst (λ (n : ℕ). Fits (run_of the.search cut.head.slack) n (kept_by cut)) head.shards_are fits))))
+
+  by_digests : (format generation : ℕ) (cut : Cut) (f : Found) → StandsFor (a_cut format generation cut) f → IsHeadOf the.search (length the.texts) cut.head
+      → start_for find (a_cut format generation cut) ≡ a_cut format generation cut
+      → (b : Bool) → keeps_digests format ≡ b → CutOrRuns find files (a_cut format generation cut)
+  by_digests format generation cut f stands head start true keeps =
+      by_fit format generation cut head keeps start (fits_decided laws.fit the.search (length the.texts) cut head.shards_are)
+  by_digests format generation cut f stands head start false none =
+      begun (a_cut format generation cut) start (λ trusted within. undigested_cut format generation cut f stands head none trusted within)
 
   by_cut_there : (format generation : ℕ) (cut : Cut) (f : Found) (slack : ℕ) → StandsFor (a_cut format generation cut) f → the.search.slack ≡ Some slack
       → start_for find (a_cut format generation cut) ≡ a_cut format generation cut
@@ -131,11 +180,7 @@ module _ (laws : EndLaws) (find : Find) (files : Files) (the : TheSearch find fi
   by_cut_there format generation cut f slack stands e start (inl none) =
       let head = head_of the.search (length the.texts) slack in
       let own = subst (IsHeadOf the.search (length the.texts)) (sym (same_heads laws.same cut.head head none)) (is_head the.search (length the.texts) slack e) in
-      let on = a_cut format generation cut in
-      inr (λ trusts within. writes_from find files on the
-      (subst (BeginsWith the.search the.texts) (sym start)
-      (own_cut format generation cut f stands own
-      (subst (IsTrusted the.search the.texts) start (trusts the.search the.texts the.searches)) (within the.search the.texts the.searches))))
+      by_digests format generation cut f stands own start (keeps_digests format) refl
 
   -- by what the disk holds, where the search keeps its state there
   by_disk : (on : OnDisk) (f : Found) (slack : ℕ) → StandsFor on f → the.search.slack ≡ Some slack → start_for find on ≡ on → CutOrRuns find files on

@@ -18,8 +18,9 @@ use Rattle.eql_cut.specs.Lifting.{LiftedFits}
 use Rattle.eql_cut.specs.Placing.{IsUnplaced, orders_in}
 use Rattle.eql_cut.specs.Placed.{place_in_texts, cut_at_places}
 use Rattle.eql_runs.specs.Searches.{Search, nanos_in, plan_of, reads_of, run_of}
-use Rattle.eql_runs.specs.Starts.{IsCutOf, meant_by}
+use Rattle.eql_runs.specs.Starts.{IsCutOf, cut_over, keeps_digests, meant_by}
 use Rattle.eql_runs.proofs.Counting.{keeps}
+use Rattle.eql_runs.proofs.Overs.{fits_under}
 
 -- the laws on which this rests
 pub record OwnLaws : Type 0 where
@@ -71,24 +72,32 @@ meant_fits laws search slack texts cut checked few within is =
     (subst (λ (k : Kept). Fits (run_of search slack) (length is.shards) k) (sym is.kept_is) fits)
 
 -- and so does the cut that stands for it
-own_if : (laws : OwnLaws) (search : Search) (slack : ℕ) (texts : List (List ℕ)) (cut : Cut) (b : Bool) → (b ≡ true → IsUnplaced (orders_in cut))
+placed_if : (laws : OwnLaws) (search : Search) (slack : ℕ) (texts : List (List ℕ)) (cut : Cut) → IsUnplaced (orders_in cut)
     → cut.head.slack ≡ slack → cut.head.shards ≡ length texts
-    → Fits (run_of search slack) (length texts) (kept_by (if b then cut_at_places texts cut else cut)) → Fits (run_of search slack) (length texts) (kept_by cut)
-own_if laws search slack texts cut false none s n fits = fits
-own_if laws search slack texts cut true none s n fits =
+    → Fits (run_of search slack) (length texts) (kept_by (cut_at_places texts cut)) → Fits (run_of search slack) (length texts) (kept_by cut)
+placed_if laws search slack texts cut none s n fits =
     let run = run_of search slack in
     let bare = any_span run.stages run.values run.pipes run.slack run.span None (length texts) (kept_by (cut_at_places texts cut)) fits in
     let there : FitsRun run.stages run.values run.pipes (cut_at_places texts cut) =
     subst (λ (k : ℕ). Fits (bare_run run.stages run.values run.pipes cut.head.slack) k (kept_by (cut_at_places texts cut))) (sym n)
     (subst (λ (k : ℕ). Fits (bare_run run.stages run.values run.pipes k) (length texts) (kept_by (cut_at_places texts cut))) (sym s) bare) in
-    let here = (laws.lifted_fit (place_in_texts texts) run.stages run.values run.pipes cut (none refl)).0 there in
+    let here = (laws.lifted_fit (place_in_texts texts) run.stages run.values run.pipes cut none).0 there in
     any_span run.stages run.values run.pipes run.slack None run.span (length texts) (kept_by cut)
     (subst (λ (k : ℕ). Fits (bare_run run.stages run.values run.pipes k) (length texts) (kept_by cut)) s
     (subst (λ (k : ℕ). Fits (bare_run run.stages run.values run.pipes cut.head.slack) k (kept_by cut)) n here))
+
+own_if : (laws : OwnLaws) (search : Search) (slack : ℕ) (texts : List (List ℕ)) (cut : Cut) (digests first : Bool)
+    → (first ≡ true → IsUnplaced (orders_in cut)) → cut.head.slack ≡ slack → cut.head.shards ≡ length texts
+    → Fits (run_of search slack) (length texts) (kept_by (if digests then cut else if first then cut_over texts (cut_at_places texts cut) else cut_over texts cut))
+    → Fits (run_of search slack) (length texts) (kept_by cut)
+own_if laws search slack texts cut true first none s n fits = fits
+own_if laws search slack texts cut false false none s n fits = fits_under (run_of search slack) (length texts) texts (kept_by cut) fits
+own_if laws search slack texts cut false true none s n fits =
+    placed_if laws search slack texts cut (none refl) s n (fits_under (run_of search slack) (length texts) texts (kept_by (cut_at_places texts cut)) fits)
 
 pub own_cut_fits : (laws : OwnLaws) (search : Search) (texts : List (List ℕ)) (format : ℕ) (cut : Cut) → IsChecked (kind_at search.mapping) search.query
     → length texts ≤ greatest_shards → All IsShardText texts → (format ≡ 1 → IsUnplaced (orders_in cut)) → cut.head.shards ≡ length texts
     → IsCutOf search cut.head.slack texts (meant_by format texts cut) → Fits (run_of search cut.head.slack) (length texts) (kept_by cut)
 own_cut_fits laws search texts format cut checked few within unplaced n is =
-    own_if laws search cut.head.slack texts cut (format == 1) (λ e. unplaced (eqb-true format 1 e)) refl n
+    own_if laws search cut.head.slack texts cut (keeps_digests format) (format == 1) (λ e. unplaced (eqb-true format 1 e)) refl n
     (meant_fits laws search cut.head.slack texts (meant_by format texts cut) checked few within is)

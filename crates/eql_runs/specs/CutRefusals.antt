@@ -2,6 +2,7 @@
 -- count.
 use Rattle.std.specs.Prelude.{◌≡◌, ◌<◌, ◌≤◌, ◌++◌, ℕ, true, List, Some, length, slice_get, take, drop, codes}
 use Rattle.std.specs.Fmt.{decimal}
+use Rattle.eql_digest.specs.Digests.{IsDigestOf}
 use Rattle.eql_values.specs.declared.cut.LaneCut.{LaneCut}
 use Rattle.eql_outside.specs.declared.refused.DiskHeld.{DiskHeld}
 use Rattle.eql_outside.specs.declared.refused.DiskHeld.TheVariants.{Busy, Shared}
@@ -16,7 +17,7 @@ use Rattle.eql_cut.specs.Domain.{kept_by}
 use Rattle.eql_cut.specs.Placing.{NamesLine}
 use Rattle.eql_ckdisk.specs.Refusing.{number_of}
 use Rattle.eql_runs.specs.Searches.{Search, run_of}
-use Rattle.eql_runs.specs.Starts.{OnDisk, nothing_kept, a_cut, bad_head, bad_text, not_ours, IsHeadOf}
+use Rattle.eql_runs.specs.Starts.{OnDisk, nothing_kept, a_cut, bad_head, bad_text, not_ours, IsHeadOf, keeps_digests}
 
 -- why a cut is refused
 pub data CutRefusal : Type 0 where
@@ -25,6 +26,7 @@ pub data CutRefusal : Type 0 where
   differs : Differs → CutRefusal
   unfit : CutRefusal
   short : (shard offset had : ℕ) → CutRefusal
+  other_bytes : (shard : ℕ) → CutRefusal
   no_line : (shard line : ℕ) → CutRefusal
   grown : (shard : ℕ) → CutRefusal
 
@@ -45,6 +47,7 @@ cut_text unfit = codes "checkpoint: Unfit\n"
 cut_text (short shard offset had) =
     codes "checkpoint: Short shard " ++ decimal shard ++ codes " offset " ++ decimal offset ++ codes " had " ++ decimal had
     ++ codes "\n"
+cut_text (other_bytes shard) = codes "checkpoint: Differs shard " ++ decimal shard ++ codes "\n"
 cut_text (no_line shard line) = codes "checkpoint: NoLine shard " ++ decimal shard ++ codes " line " ++ decimal line ++ codes "\n"
 cut_text (grown shard) = codes "checkpoint: Grown shard " ++ decimal shard ++ codes "\n"
 
@@ -76,18 +79,26 @@ pub record IsLostLine (cut : Cut) (shard offset : ℕ) (text : List ℕ) (line :
   pub lost : ¬ (StandsBefore offset text line)
   pub least : (other : ℕ) → NamesLine cut shard other → other < line → StandsBefore offset text other
 
--- why the text of a shard is refused by what the cut keeps of it. Lines are looked for where the cut has no places
+-- the bytes of a text before the offset have the digest that the cut keeps, where its format keeps one
+abbrev pub HasItsBytes : (format : ℕ) → LaneCut → List ℕ → Type 0
+HasItsBytes format lane text = keeps_digests format ≡ true → IsDigestOf lane.digest (take lane.offset text)
+
+-- why the text of a shard is refused by what the cut keeps of it. Bytes are compared where the cut keeps digests, and lines are
+-- looked for where it has no places
 pub data ShardRefuses (format : ℕ) (cut : Cut) (shard : ℕ) (text : List ℕ) : CutRefusal → Type 0 where
   is_short :
       (lane : LaneCut) → slice_get cut.lanes shard ≡ Some lane → length text < lane.offset
       → ShardRefuses format cut shard text (short shard lane.offset (length text))
+  has_other_bytes :
+      (lane : LaneCut) → slice_get cut.lanes shard ≡ Some lane → lane.offset ≤ length text → ¬ (HasItsBytes format lane text)
+      → ShardRefuses format cut shard text (other_bytes shard)
   has_no_line :
       (lane : LaneCut) → slice_get cut.lanes shard ≡ Some lane → format ≡ 1 → lane.offset ≤ length text
       → (line : ℕ) → IsLostLine cut shard lane.offset text line
       → ShardRefuses format cut shard text (no_line shard line)
   is_grown :
       (lane : LaneCut) → slice_get cut.lanes shard ≡ Some lane → lane.closed ≡ true → lane.offset < length text
-      → (format ≡ 1 → (line : ℕ) → NamesLine cut shard line → StandsBefore lane.offset text line)
+      → HasItsBytes format lane text → (format ≡ 1 → (line : ℕ) → NamesLine cut shard line → StandsBefore lane.offset text line)
       → ShardRefuses format cut shard text (grown shard)
 
 -- none of the shards before this one is refused

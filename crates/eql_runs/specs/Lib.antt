@@ -8,5 +8,7 @@ pub mod Summaries
 pub mod Runs
 pub mod Outcomes
 pub mod RunLaws
+pub mod Composing
 pub mod RunExamples
 pub mod SummaryExamples
+pub mod ComposingExamples

@@ -1,15 +1,19 @@
 -- Worked rows, computed.
 use Rattle.std.specs.Prelude.{◌≡◌, ◌++◌, pos, [], ◌∷◌, Some, None, true, false, refl, codes}
 use Rattle.std.specs.Fmt.{digits}
+use Rattle.eql_digest.specs.declared.digest.Digest.{Digest}
+use Rattle.eql_digest.specs.Digests.{start, with_bytes}
+use Rattle.eql_values.specs.declared.cut.LaneCut.{LaneCut}
 use Rattle.eql_lexer.specs.declared.refusal.LexRefused.TheVariants as lexed
 use Rattle.eql_query.specs.QueryTree.{event}
 use Rattle.eql_query.specs.Tree as t
 use Rattle.eql_words.specs.declared.commands.Command.TheVariants as command
-use Rattle.eql_runs.specs.CutRefusals.{foreign, short, unfit}
+use Rattle.eql_runs.specs.CutRefusals.{foreign, other_bytes, short, unfit}
 use Rattle.eql_runs.specs.Files.{Files, first_missing}
 use Rattle.eql_runs.specs.Refusals.{no_file, lex, cut, refusal_status, refusal_text}
 use Rattle.eql_runs.specs.Runs.{names_of}
 use Rattle.eql_runs.specs.Searches.{Search, nanos_in, listing_of, report_of}
+use Rattle.eql_runs.specs.Starts.{keeps_digests, lanes_over}
 
 -- `check` names no shards
 names_of_check :
@@ -50,6 +54,16 @@ short_is_told :
 unfolding digits lib.Utf8.encode
 short_is_told = refl
 
+other_bytes_are_told :
+    (refusal_status (cut (other_bytes 12)) ≡ 7)
+    × (refusal_text (cut (other_bytes 12)) ≡ codes "checkpoint: Differs shard 12\n")
+unfolding digits lib.Utf8.encode
+other_bytes_are_told = (refl, refl)
+
+-- the third format has no digests, the fourth has
+digests_from_4 : (keeps_digests 3 ≡ false) × (keeps_digests 4 ≡ true)
+digests_from_4 = (refl, refl)
+
 lex_is_told :
     (refusal_status (lex lexed.TooLong) ≡ 3)
     × (refusal_text (lex lexed.TooLong) ≡ codes "lex: TooLong\n")
@@ -60,8 +74,26 @@ lex_is_told = (refl, refl)
 five_seconds : nanos_in 5000 ≡ pos 5000000000
 five_seconds = refl
 
+-- a shard of three bytes of which two were read, at first with the digest of none
+abbrev two_read : Digest → LaneCut
+two_read digest = record {
+  offset = 2;
+  digest = digest;
+  closed = true;
+  best = None;
+  counts = record { lines = 1; accepted = 0; late = 0; rejected = 0; first = None };
+  items = [];
+}
+
+-- the second shard has no text, so its digest stays
+digests_of_texts :
+    lanes_over (codes "a\nb" ∷ []) (two_read start ∷ two_read start ∷ [])
+    ≡ two_read (with_bytes start (codes "a\n")) ∷ two_read start ∷ []
+unfolding lib.Utf8.encode
+digests_of_texts = refl
+
 -- any where true, over two empty shards
-abbrev any_event : Search
+abbrev pub any_event : Search
 any_event = record {
   query = record {
     body = event (record { category = None; cond = t.bool true; by = []; runs = pos 1 });

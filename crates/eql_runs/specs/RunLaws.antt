@@ -16,9 +16,10 @@ use Rattle.eql_words.specs.Commands.{command_of}
 use Rattle.eql_runs.specs.Files.{Files, first_missing, HasChecked, IsWithin}
 use Rattle.eql_runs.specs.Refusals.{Names, Refusal, Refuses, refusal_status}
 use Rattle.eql_runs.specs.Refusals as refusal
-use Rattle.eql_runs.specs.CutRefusals.{damaged, IsTested}
-use Rattle.eql_runs.specs.Starts.{OnDisk, StandsFor, start_for}
+use Rattle.eql_runs.specs.CutRefusals.{damaged, IsTested, IsTestedCut}
+use Rattle.eql_runs.specs.Starts.{IsOwnCut, IsTrustedCut, OnDisk, StandsFor, start_for}
 use Rattle.eql_ckdisk.specs.Found.{Found, found_on}
+use Rattle.eql_cut.specs.declared.cut.Cut.{Cut}
 use Rattle.eql_cut.specs.declared.cut.CutHead.{CutHead}
 use Rattle.eql_cut.specs.Agreeing.{difference}
 use Rattle.eql_cut.specs.Formats.{IsBytes}
@@ -39,6 +40,13 @@ abbrev pub TestedIsAccepted : Type 0
 TestedIsAccepted =
     (find : Find) (files : Files) (on : OnDisk) (search : Search) (texts : List (List ℕ)) → Searches find files search texts
     → IsTested search texts (start_for find on) → IsFindAccepted find files on
+
+-- a cut that is trusted is one over these texts where it passed all tests: so one with digests, which the search put over whatever
+-- texts, where the digests tell those from these
+abbrev pub TestedIsOwn : Type 0
+TestedIsOwn =
+    (search : Search) (texts : List (List ℕ)) (format : ℕ) (cut : Cut) → IsTestedCut search texts format cut
+    → IsTrustedCut search texts format cut → IsOwnCut search texts format cut
 
 -- a run searches for one thing, over one list of texts
 abbrev pub SearchIsOne : Type 0

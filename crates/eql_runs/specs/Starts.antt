@@ -1,5 +1,7 @@
 -- What a run of `find` begins with: what the disk of its checkpoint holds.
-use Rattle.std.specs.Prelude.{◌≡◌, ◌==◌, ℕ, if◌then◌else◌, List, Option, Some, None, IsSomeAnd, IsTrue, length, map}
+use Rattle.std.specs.Prelude.{◌≡◌, ◌==◌, ℕ, nat_le, Bool, true, false, if◌then◌else◌, List, [], ◌∷◌, Option, Some, None, IsSomeAnd, IsTrue, length, map, slice_get, take}
+use Rattle.eql_digest.specs.Digests.{start, with_bytes}
+use Rattle.eql_values.specs.declared.cut.LaneCut.{LaneCut}
 use Rattle.eql_values.specs.declared.order.Mark.{Mark}
 use Rattle.eql_values.specs.declared.order.Mark.TheVariants.{Start, At}
 use Rattle.eql_values.specs.Marks.{is_safe}
@@ -9,6 +11,7 @@ use Rattle.eql_outside.specs.Moments.{History}
 use Rattle.eql_laws.specs.Belows.{IsMarkTime}
 use Rattle.eql_laws.specs.Fitting.{Fits, cut_of}
 use Rattle.eql_laws.specs.Places.{ReadTo, ArePlaces, lows_from, whole}
+use Rattle.eql_lane.specs.Noting.{retraced_cut}
 use Rattle.eql_cut.specs.declared.cut.Cut.{Cut}
 use Rattle.eql_cut.specs.declared.cut.CutHead.{CutHead}
 use Rattle.eql_cut.specs.Domain.{kept_by}
@@ -87,9 +90,26 @@ pub record IsHeadOf (search : Search) (shards : ℕ) (head : CutHead) : Type 0 w
   pub slack : search.slack ≡ Some head.slack
   pub shards_are : head.shards ≡ shards
 
--- the cut for which the text of a cut stands: the first format keeps no places of lines, so those of the texts are meant
+-- what is kept of shards, with the digests of the bytes of these texts that were read
+abbrev pub lanes_over : List (List ℕ) → List LaneCut → List LaneCut
+lanes_over texts [] = []
+lanes_over [] (lane ∷ lanes) = lane ∷ lanes
+lanes_over (bytes ∷ texts) (lane ∷ lanes) = retraced_cut (take lane.offset bytes) lane ∷ lanes_over texts lanes
+
+abbrev pub cut_over : List (List ℕ) → Cut → Cut
+cut_over texts cut = record cut { lanes = lanes_over texts cut.lanes }
+
+-- the fourth format keeps digests of the bytes that were read
+abbrev pub keeps_digests : (format : ℕ) → Bool
+keeps_digests format = nat_le 4 format
+
+-- the cut for which the text of a cut stands: the first format keeps no places of lines, and the first three no digests, so those of
+-- the texts are meant
 abbrev pub meant_by : (format : ℕ) → List (List ℕ) → Cut → Cut
-meant_by format texts cut = if format == 1 then cut_at_places texts cut else cut
+meant_by format texts cut =
+    if keeps_digests format then cut
+    else if format == 1 then cut_over texts (cut_at_places texts cut)
+    else cut_over texts cut
 
 -- the cut is one of the search, at a slack in milliseconds, over these texts, which were read up to places, at a safe time
 pub record IsCutOf (search : Search) (slack : ℕ) (texts : List (List ℕ)) (cut : Cut) : Type 0 where
@@ -114,12 +134,31 @@ BeginsWith search texts (bad_head area) = ⊥
 BeginsWith search texts (bad_text area) = ⊥
 BeginsWith search texts (not_ours area) = ⊥
 
--- the one thing that a run can't test: a cut that says it is of this search over these texts is one of them
+-- ---- what a run can't test
+-- where the bytes of two texts before an offset have one digest, they are the same bytes
+abbrev pub DigestTells : (offset : ℕ) → (this other : List ℕ) → Type 0
+DigestTells offset this other =
+    with_bytes start (take offset this) ≡ with_bytes start (take offset other) → take offset this ≡ take offset other
+
+-- this search put the cut, over texts that may be others than these; what was read of each of them and what stands there now are
+-- told apart by their digests
+pub record WasPut (search : Search) (texts : List (List ℕ)) (cut : Cut) : Type 0 where
+  pub others : List (List ℕ)
+  pub is_cut : IsCutOf search cut.head.slack others cut
+  pub tells :
+      (s : ℕ) (lane : LaneCut) (this other : List ℕ) → slice_get cut.lanes s ≡ Some lane → slice_get texts s ≡ Some this
+      → slice_get others s ≡ Some other → DigestTells lane.offset this other
+
+-- the search put the cut; one in a format without digests it put over these texts
+pub record IsTrustedCut (search : Search) (texts : List (List ℕ)) (format : ℕ) (cut : Cut) : Type 0 where
+  pub by_digests : keeps_digests format ≡ true → WasPut search texts cut
+  pub without : keeps_digests format ≡ false → IsCutOf search cut.head.slack texts (meant_by format texts cut)
+
+-- the one thing that a run can't test: a cut that says it is of this search is so
 abbrev pub IsTrusted : Search → List (List ℕ) → OnDisk → Type 0
 IsTrusted search texts nothing_kept = Unit {0}
 IsTrusted search texts (a_cut format generation cut) =
-    IsHeadOf search (length texts) cut.head
-    → IsCutOf search cut.head.slack texts (meant_by format texts cut)
+    IsHeadOf search (length texts) cut.head → IsTrustedCut search texts format cut
 IsTrusted search texts (bad_head area) = Unit {0}
 IsTrusted search texts (bad_text area) = Unit {0}
 IsTrusted search texts (not_ours area) = Unit {0}

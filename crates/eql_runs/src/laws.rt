@@ -1,16 +1,16 @@
 //! Laws of what a run writes and refuses, each the contract of a function that does nothing.
-ghost use Rattle.eql_runs.specs.RunLaws.{FitsAtAnySpan, ListingIsOne, RefusalIsOne, SearchIsOne, StatusIsOne, TestedIsAccepted, WritesOrIsRefused, CheckedIsAccepted, HeadsAgree, ReadyIsNotRefused, MadeIsASearch, MadeIsWithin, MatchesAreFew, NoRunIsLeftOut, DiskHoldsOne, RunsFindFew, DiskHoldsSomething};
+ghost use Rattle.eql_runs.specs.RunLaws.{FitsAtAnySpan, ListingIsOne, RefusalIsOne, SearchIsOne, StatusIsOne, TestedIsAccepted, TestedIsOwn, WritesOrIsRefused, CheckedIsAccepted, HeadsAgree, ReadyIsNotRefused, MadeIsASearch, MadeIsWithin, MatchesAreFew, NoRunIsLeftOut, DiskHoldsOne, RunsFindFew, DiskHoldsSomething};
 
 use eql_check::check_is_exact;
 use eql_cut::{
     first_format_has_no_places, lifted_cuts_fit, named_lines_were_read, places_alone_are_set,
     texts_are_decided,
 };
-use eql_laws::{cuts_fit, found_is_few, fronts_fit, lines_go_on};
+use eql_laws::{cuts_fit, found_is_few, fronts_fit, late, lines_go_on, opening_finds};
 use eql_lexer::{none_spelled, one_break, one_list, spelled_or_broken};
 use eql_parser::{one_query, one_refusal, query_or_refused};
 use eql_stages::readers_fit;
-use eql_values::orders_agree_with_equality;
+use eql_values::{orders_agree_with_equality, orders_told_alike};
 use eql_words::commands_are_bounded;
 
 /// The words, the files and what the disk of a checkpoint holds determine what a run writes, or that it is refused and for which
@@ -56,6 +56,9 @@ pub fn no_run_is_left_out()
     commands_are_bounded();
     first_format_has_no_places();
     texts_are_decided();
+    late();
+    orders_told_alike();
+    opening_finds();
 }
 
 /// What both areas of a disk stand for is one thing.
@@ -99,10 +102,12 @@ pub fn heads_agree()
 }
 
 /// A run over texts for which what its disk holds passed all tests, the head, whether it fits, and each shard, is refused for no
-/// cause; where the cut is trusted, it is a run that writes. The words and the files determine for what a run searches, and the
-/// texts of its shards.
+/// cause; where the cut is trusted, it is a run that writes. A cut with digests is trusted where the search put it, over whatever
+/// texts: where it passed all tests over these, and digests tell texts apart, it is a cut of these. The words and the files
+/// determine for what a run searches, and the texts of its shards.
 pub fn tested_cuts_are_accepted()
     ensures accepted { TestedIsAccepted }
+    ensures own { TestedIsOwn }
     ensures one { SearchIsOne }
 {
     one_list();
@@ -112,6 +117,7 @@ pub fn tested_cuts_are_accepted()
     one_refusal();
     check_is_exact();
     orders_agree_with_equality();
+    late();
 }
 
 /// Whether a cut fits a run doesn't depend on the span of the run.

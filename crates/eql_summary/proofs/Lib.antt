@@ -1,5 +1,4 @@
 mod LineLemmas
 mod InputLemmas
 mod SearchLemmas
-mod FeedLemmas
 mod ListingLemmas

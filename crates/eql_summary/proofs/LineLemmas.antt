@@ -1,29 +1,17 @@
 -- The lines of a text, one after the other, and their ends.
-use Rattle.std.proofs.Common.{◌≡◌, ℕ, suc, ◌+◌, ◌-◌, ◌≤◌, ◌<◌, Bool, true, false, cond, List, [], ◌∷◌, ◌++◌, length, take, drop, Option, Some, None, refl, sym, ap, ◌∙◌, arith, subst, append_assoc, length-append}
+use Rattle.std.proofs.Common.{◌≡◌, ℕ, suc, ◌+◌, ◌-◌, ◌≤◌, ◌<◌, false, List, [], ◌∷◌, ◌++◌, length, take, drop, Option, Some, None, refl, sym, ap, ◌∙◌, arith, subst, append_assoc, length-append}
 use Rattle.std.proofs.lemmas.Bool.{false≢true}
 use Rattle.std.proofs.lemmas.List.{append-nil, take_all, length-drop}
 use Rattle.memchr.specs.Find.{IsFirstByte, is_byte}
-use Rattle.std.specs.Prelude.{IfSome, not, ◌==◌}
-use Rattle.eql_values.specs.Lines.{begin_with, lines_of}
-use Rattle.eql_laws.proofs.Facts.{both_true}
+use Rattle.std.specs.Prelude.{Bool, IfSome, ◌==◌}
+use Rattle.eql_values.specs.Lines.{lines_of}
 use Rattle.eql_laws.proofs.LineLemmas.{lines_are_one}
 use Rattle.eql_lane.specs.Buffers.{HasFeedAt, IsOneLine}
 use Rattle.eql_lane.proofs.Feeds.{found_if, found_none}
 use Rattle.eql_runs.specs.Summaries.{first_or_none, last_or_none}
+use Rattle.eql_runs.proofs.ListingLines.{line_fed}
 use Rattle.eql_summary.specs.declared.ends.Ends.{Ends}
 use Rattle.eql_summary.specs.Ends.{AreEnds}
-
--- a line with its line feed before others
-pub line_fed : (line rest : List ℕ) → IsOneLine line → lines_of (line ++ 10 ∷ rest) ≡ line ∷ lines_of rest
-line_fed [] rest h = refl
-line_fed (byte ∷ line) rest h =
-    let both = both_true _ _ h in
-    begun (byte == 10) (lines_of (line ++ 10 ∷ rest)) both.0 (line_fed line rest both.1)
-  where
-    begun : (c : Bool) (whole : List (List ℕ)) → not c ≡ true → whole ≡ line ∷ lines_of rest
-        → cond c ([] ∷ whole) (begin_with byte whole) ≡ (byte ∷ line) ∷ lines_of rest
-    begun true whole n e = cc
-    begun false whole n e = ap (begin_with byte) e
 
 pub next_fed : (end : ℕ) (text rest : List ℕ) → HasFeedAt end text → rest ≡ drop (suc end) text
     → lines_of text ≡ take end text ∷ lines_of rest

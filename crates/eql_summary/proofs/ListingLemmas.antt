@@ -1,31 +1,16 @@
--- A listing has a line for each match.
-use Rattle.std.proofs.Common.{◌≡◌, ℕ, Bool, List, [], ◌∷◌, ◌++◌, map, refl, sym, ap, ◌∙◌, append_assoc, codes}
+-- What the lines of a listing say of its summary.
+use Rattle.std.proofs.Common.{◌≡◌, ℕ, List, [], refl, sym, ap, ◌∙◌}
 use Rattle.std.specs.Prelude.{Option, None, Some}
 use Rattle.std.proofs.lemmas.List.{append-nil}
-use Rattle.std.proofs.lemmas.List.Concat.{flat_map-cons}
 use Rattle.std.proofs.lemmas.Option.{same_Some}
-use Rattle.eql_values.specs.declared.found.Numbered.{Numbered}
 use Rattle.eql_values.specs.Lines.{lines_of}
 use Rattle.eql_outside.specs.Written.{WroteFront}
-use Rattle.eql_book.specs.Listing.{match_text, match_line, listing}
 use Rattle.eql_runs.specs.Made.{made_texts}
 use Rattle.eql_runs.specs.Searches.{listed_of}
 use Rattle.eql_runs.specs.RunLaws.{MadeIsASearch}
 use Rattle.eql_runs.specs.Summaries.{made_lines, Makes, summary}
+use Rattle.eql_runs.proofs.ListingLines.{listing_lines}
 use Rattle.eql_summary.specs.Written.{IsMadeListing, MakesFront}
-use Rattle.eql_summary.proofs.FeedLemmas.{one_match}
-use Rattle.eql_summary.proofs.LineLemmas.{line_fed}
-
-line_before : (line rest : List ℕ) → (line ++ codes "\n") ++ rest ≡ line ++ 10 ∷ rest
-unfolding lib.Utf8.encode
-line_before line rest = append_assoc line (10 ∷ []) rest
-
-listing_lines : (places : Bool) (list : List Numbered) → lines_of (listing places list) ≡ map (match_text places) list
-listing_lines places [] = refl
-listing_lines places (n ∷ list) =
-    ap lines_of (flat_map-cons (match_line places) n list ∙ line_before (match_text places n) (listing places list))
-    ∙ line_fed (match_text places n) (listing places list) (one_match places n)
-    ∙ ap (λ (l : List (List ℕ)). match_text places n ∷ l) (listing_lines places list)
 
 -- the summary of a listing is what the run writes
 pub summary_makes : (events : ℕ) (written : Option (List ℕ)) (bytes listing text : List ℕ) → IsMadeListing events written
