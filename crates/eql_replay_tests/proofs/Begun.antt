@@ -47,6 +47,12 @@ begins_with left lent_as count source reader shard slack (start.From cut) lane m
   state = made.state ∙ ap (λ (x : LaneState). beginning_lane x.cut x.faults) (sym made.state);
   cut = ap (λ (x : LaneState). x.cut) made.state;
 }
+begins_with left lent_as count source reader shard slack (start.Retrace cut) lane made = record {
+  shard = made.begins.shard_is;
+  slack_is = made.begins.slack_is;
+  state = made.begins.state ∙ ap (λ (x : LaneState). beginning_lane x.cut x.faults) (sym made.begins.state);
+  cut = tt;
+}
 begins_with left lent_as count source reader shard slack (start.Lift cut wanted) lane made = record {
   shard = made.begins.shard_is;
   slack_is = made.begins.slack_is;

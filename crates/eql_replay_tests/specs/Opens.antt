@@ -31,10 +31,11 @@ pub record BeginsWith {S L : Type 0} (slack : Option ℤ) (Is : LaneCut → Type
   pub state : lane.state ≡ beginning_lane lane.state.cut lane.state.faults
   pub cut : Is lane.state.cut
 
--- the cut with which a lane starts, where its lines have places
+-- the cut with which a lane starts, where it has a digest and places
 abbrev pub StartsAs : LaneStart → LaneCut → Type 0
 StartsAs start.Fresh is = is ≡ fresh_lane
 StartsAs (start.From cut) is = is ≡ cut
+StartsAs (start.Retrace cut) is = Unit {0}
 StartsAs (start.Lift cut wanted) is = Unit {0}
 
 -- each lane begins so

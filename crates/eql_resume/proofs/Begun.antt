@@ -1,6 +1,6 @@
 -- How lanes begin, and what is pending, by a cut that is taken apart.
 use Rattle.std.proofs.Common.{◌≡◌, ◌+◌, ℕ, zero, suc, List, [], ◌∷◌, ◌++◌, Some, None, true, false, refl, ap, sym, arith, ◌∙◌, subst, length, map}
-use Rattle.std.specs.Prelude.{All, Bool, Contains, ℤ, get_or}
+use Rattle.std.specs.Prelude.{All, Bool, Contains, ℤ, ◌==◌, if◌then◌else◌, get_or}
 use Rattle.std.specs.List.{flat_map, slice_get}
 use Rattle.std.proofs.lemmas.List.Elements.{All-cons, All-head, All-map, All-nil, All-tail}
 use Rattle.std.proofs.lemmas.Option.{none-some, same_Some, slice_get-get_or, slice_get_within, get_or_from_slice_get}
@@ -18,7 +18,8 @@ use Rattle.eql_cut.specs.Domain.{kept_by}
 use Rattle.eql_cut.specs.Fitting.{run_of}
 use Rattle.eql_cut.specs.Placing.{IsUnplaced, NamesLine, lane_orders, orders_in}
 use Rattle.eql_cut.specs.PlacedLaws.{EventsAreNamed}
-use Rattle.eql_resume.specs.Beginnings.{AreWanted, LaneBegins, LanesBegin, WantedAre, fresh_starts, lifts_of, rest_orders}
+use Rattle.eql_runs.specs.Starts.{keeps_digests}
+use Rattle.eql_resume.specs.Beginnings.{AreWanted, Keeping, LaneBegins, LanesBegin, WantedAre, fresh_starts, keeping_of, lifts_of, rest_orders, starts_by, undigested, unplaced, whole}
 use Rattle.eql_resume.specs.Finding.{Suits}
 
 -- ---- lists that grow at their end
@@ -52,8 +53,8 @@ all_by P xs each = λ k d lt. each k (get_or xs k d) (slice_get-get_or xs k d lt
 may_fresh : (x : LaneStart) → x ≡ start.Fresh → MayStart x
 may_fresh x is = subst MayStart (sym is) tt
 
-pub begins_fresh : (unplaced : Bool) (shards : ℕ) → LanesBegin None unplaced shards (fresh_starts shards)
-begins_fresh unplaced shards = record {
+pub begins_fresh : (format shards : ℕ) → LanesBegin None format shards (fresh_starts shards)
+begins_fresh format shards = record {
   count = fresh_length shards;
   each = λ s x is. fresh_each shards s x is;
   may = all_by MayStart (fresh_starts shards) (λ s x is. may_fresh x (fresh_each shards s x is));
@@ -64,11 +65,11 @@ map_length : {A B : Type 0} (f : A → B) (xs : List A) → length (map f xs) �
 map_length f [] = refl
 map_length f (x ∷ xs) = ap suc (map_length f xs)
 
-from_each : (lanes : List LaneCut) (s : ℕ) (x : LaneStart) → slice_get (map start.From lanes) s ≡ Some x
-    → (lane : LaneCut) × (slice_get lanes s ≡ Some lane) × (x ≡ start.From lane)
-from_each [] s x is = absurd (none-some x is)
-from_each (lane ∷ lanes) zero x is = (lane, refl, sym (same_Some (start.From lane) x is))
-from_each (lane ∷ lanes) (suc s) x is = from_each lanes s x is
+start_each : (by : LaneCut → LaneStart) (lanes : List LaneCut) (s : ℕ) (x : LaneStart) → slice_get (map by lanes) s ≡ Some x
+    → (lane : LaneCut) × (slice_get lanes s ≡ Some lane) × (x ≡ by lane)
+start_each by [] s x is = absurd (none-some x is)
+start_each by (lane ∷ lanes) zero x is = (lane, refl, sym (same_Some (by lane) x is))
+start_each by (lane ∷ lanes) (suc s) x is = start_each by lanes s x is
 
 all_at : {A : Type 0} (P : A → Type 0) (xs : List A) (s : ℕ) (x : A) → All P xs → slice_get xs s ≡ Some x → P x
 all_at P xs s x all is = subst P (get_or_from_slice_get xs s x x is) (all s x (slice_get_within xs s x is))
@@ -81,12 +82,29 @@ lane_count : (stages values : ℕ) (pipes : List Pipe) (cut : Cut) (shards : ℕ
     → length cut.lanes ≡ shards
 lane_count stages values pipes cut shards suits same = suits.is_cut.stands.lane_for_each ∙ same
 
-pub begins_kept : FitMayBegin → (stages values : ℕ) (pipes : List Pipe) (cut : Cut) (shards : ℕ) → Suits stages values pipes cut.head cut
-    → cut.head.shards ≡ shards → LanesBegin (Some cut) false shards (map start.From cut.lanes)
-begins_kept law stages values pipes cut shards suits same = record {
+-- what the text keeps of them, by its format
+keeps_whole : (format : ℕ) → keeps_digests format ≡ true → keeping_of format ≡ whole
+keeps_whole format keeps = ap (λ (b : Bool). if b then whole else if format == 1 then unplaced else undigested) keeps
+
+keeps_no_digests : (format : ℕ) → keeps_digests format ≡ false → (format == 1) ≡ false → keeping_of format ≡ undigested
+keeps_no_digests format keeps later =
+    ap (λ (b : Bool). if b then whole else if format == 1 then unplaced else undigested) keeps
+    ∙ ap (λ (b : Bool). if b then unplaced else undigested) later
+
+pub begins_kept : FitMayBegin → (stages values : ℕ) (pipes : List Pipe) (cut : Cut) (format shards : ℕ) (digested : Bool)
+    → Suits stages values pipes cut.head cut → cut.head.shards ≡ shards → (format == 1) ≡ false → keeps_digests format ≡ digested
+    → LanesBegin (Some cut) format shards (starts_by digested cut.lanes)
+begins_kept law stages values pipes cut format shards true suits same later keeps = record {
   count = map_length start.From cut.lanes ∙ lane_count stages values pipes cut shards suits same;
-  each = λ s x is. from_each cut.lanes s x is;
+  each = λ s x is. subst (λ (k : Keeping). LaneBegins (Some cut) k s x) (sym (keeps_whole format keeps)) (start_each start.From cut.lanes s x is);
   may = All-map MayStart start.From cut.lanes (lanes_may law stages values pipes cut suits);
+}
+begins_kept law stages values pipes cut format shards false suits same later keeps = record {
+  count = map_length start.Retrace cut.lanes ∙ lane_count stages values pipes cut shards suits same;
+  each = λ s x is.
+      subst (λ (k : Keeping). LaneBegins (Some cut) k s x) (sym (keeps_no_digests format keeps later))
+      (start_each start.Retrace cut.lanes s x is);
+  may = All-map MayStart start.Retrace cut.lanes (lanes_may law stages values pipes cut suits);
 }
 
 -- ---- with a cut that has no places
@@ -174,7 +192,7 @@ module _ (law : FitMayBegin) (named : EventsAreNamed) (stages values : ℕ) (pip
   own_wanted lists s wanted all is = subst (λ (n : ℕ). AreWanted cut n wanted) (let z : 0 + s ≡ s = omega arith in z) (wanted_at cut 0 lists s wanted all is)
 
   one_lift : (lists : List (List ℕ)) (s : ℕ) (x : LaneStart) → WantedAre cut 0 lists → slice_get (lifts_of cut.lanes lists) s ≡ Some x
-      → LaneBegins (Some cut) true s x × MayStart x
+      → LaneBegins (Some cut) unplaced s x × MayStart x
   one_lift lists s x all is =
       let h = lift_each cut.lanes lists s x is in
       let are = own_wanted lists s h.1 all h.3 in
@@ -182,10 +200,10 @@ module _ (law : FitMayBegin) (named : EventsAreNamed) (stages values : ℕ) (pip
 
   pub begins_lifted : (shards : ℕ) (starts : List LaneStart) → cut.head.shards ≡ shards
       → (lists : List (List ℕ)) × (length lists ≡ shards) × WantedAre cut 0 lists × (starts ≡ lifts_of cut.lanes lists)
-      → LanesBegin (Some cut) true shards starts
+      → LanesBegin (Some cut) 1 shards starts
   begins_lifted shards starts same h =
       let count = lane_count stages values pipes cut shards suits same in
-      subst (LanesBegin (Some cut) true shards) (sym h.3)
+      subst (LanesBegin (Some cut) 1 shards) (sym h.3)
       (record {
         count = lift_length cut.lanes h.0 (h.1 ∙ sym count) ∙ count;
         each = λ s x is. (one_lift h.0 s x h.2 is).0;

@@ -1,6 +1,6 @@
 -- Lanes that were lifted keep what the cut does once it has their places.
 use Rattle.std.proofs.Common.{◌≡◌, ◌≤◌, ◌<◌, ◌+◌, ◌-◌, ℕ, zero, suc, List, [], ◌∷◌, Some, true, false, refl, ap, sym, arith, ◌∙◌, subst, length, map}
-use Rattle.std.specs.Prelude.{All, AllPairs, Bool, Contains, ◌==◌, if◌then◌else◌, get_or}
+use Rattle.std.specs.Prelude.{All, AllPairs, Bool, Contains, ◌==◌, ◌++◌, if◌then◌else◌, get_or, take}
 use Rattle.std.specs.FinMap.Entries.{below_all, is_sorted}
 use Rattle.std.specs.List.{slice_get, list_all}
 use Rattle.std.specs.Ordering.{is_lt, nat_cmp}
@@ -15,13 +15,14 @@ use Rattle.eql_values.specs.declared.item.Item.{Item}
 use Rattle.eql_values.specs.declared.order.OrderKey.{OrderKey}
 use Rattle.eql_values.specs.Lines.{Line, lines_in, lines_of}
 use Rattle.eql_laws.specs.Counting.{front}
-use Rattle.eql_laws.specs.Places.{ReadTo, is_line_end}
-use Rattle.eql_lane.specs.Noting.{IsWholeLine, line_place, place_among, placed_item, placed_lines, whole_lines}
+use Rattle.eql_laws.specs.Places.{ReadTo, is_line_end, whole}
+use Rattle.eql_lane.specs.Noting.{IsWholeLine, line_place, place_among, placed_item, placed_lines, retraced_cut, whole_lines}
 use Rattle.eql_cut.specs.declared.cut.Cut.{Cut}
 use Rattle.eql_cut.specs.Fitting.{run_of}
 use Rattle.eql_cut.specs.Placing.{NamesLine, lifted_cut, lifted_item, lifted_lane, place_in, listed_place}
 use Rattle.eql_cut.specs.Placed.{EachWasNoted, HasLine, WereNoted, place_of_line, with_places}
 use Rattle.eql_cut.specs.PlacedLaws.{EventsAreNamed, NotedIsPlaced, WantedWereNoted}
+use Rattle.eql_runs.specs.Starts.{lanes_over}
 use Rattle.eql_resume.specs.Beginnings.{AreWanted}
 use Rattle.eql_resume.specs.Finding.{Suits}
 use Rattle.eql_resume.specs.Lifted.{LiftedIsCut, WasLifted, WereLifted}
@@ -94,6 +95,11 @@ place_at [] shard line places is = absurd (none-some places is)
 place_at (l ∷ lists) zero line places is = ap (λ (x : List (ℕ × ℕ)). place_in x line) (same_Some l places is)
 place_at (l ∷ lists) (suc shard) line places is = place_at lists shard line places is
 
+take_front : (a b : List ℕ) → take (length a) (a ++ b) ≡ a
+take_front [] [] = refl
+take_front [] (x ∷ b) = refl
+take_front (x ∷ a) b = ap (λ (l : List ℕ). x ∷ l) (take_front a b)
+
 module _ (laws : LiftLaws) (stages values : ℕ) (pipes : List Pipe) (cut : Cut) (suits : Suits stages values pipes cut.head cut) where
   -- an event of the lane of a shard is of this shard, and its line is wanted
   own_event : (shard : ℕ) (lane : LaneCut) (wanted : List ℕ) → slice_get cut.lanes shard ≡ Some lane → AreWanted cut shard wanted
@@ -122,7 +128,7 @@ module _ (laws : LiftLaws) (stages values : ℕ) (pipes : List Pipe) (cut : Cut)
       }
 
   lane_placed : (lists : List (List (ℕ × ℕ))) (shard : ℕ) (r : ReadTo) (kept : LaneCut) (places : List (ℕ × ℕ)) → slice_get lists shard ≡ Some places
-      → (h : WasLifted cut shard r kept places) → kept ≡ lifted_lane (listed_place lists) h.lane
+      → (h : WasLifted cut shard r kept places) → kept ≡ retraced_cut r.first (lifted_lane (listed_place lists) h.lane)
   lane_placed lists shard r kept places is h =
       let items : map (placed_item r.first) h.lane.items ≡ map (lifted_item (listed_place lists)) h.lane.items =
       map_same (placed_item r.first) (lifted_item (listed_place lists)) h.lane.items
@@ -131,11 +137,17 @@ module _ (laws : LiftLaws) (stages values : ℕ) (pipes : List Pipe) (cut : Cut)
       (λ item own. placed_here lists shard r h.wanted places item is h.located.places_are own.0 own.1) h.lane.items
       (own_event shard h.lane h.wanted h.there h.are)) in
       h.kept_is
-      ∙ (λ i. record { offset = h.lane.offset; closed = h.lane.closed; best = h.lane.best; counts = h.lane.counts; items = items i })
+      ∙ ap (λ (xs : List Item). record (retraced_cut r.first h.lane) { items = xs }) items
+
+  -- the bytes that were read of a whole text
+  read_of_whole : (shard : ℕ) (r : ReadTo) (kept : LaneCut) (places : List (ℕ × ℕ)) → (h : WasLifted cut shard r kept places)
+      → take h.lane.offset (whole r) ≡ r.first
+  read_of_whole shard r kept places h = ap (λ (n : ℕ). take n (whole r)) (sym h.count) ∙ take_front r.first r.rest
 
   -- ---- all of them
   pub record OneLifted (shards : List ReadTo) (lists : List (List (ℕ × ℕ))) (shard at : ℕ) (kept : LaneCut) : Type 0 where
     pub r : ReadTo
+    pub among : slice_get shards at ≡ Some r
     pub places : List (ℕ × ℕ)
     pub is : slice_get lists at ≡ Some places
     pub was : WasLifted cut shard r kept places
@@ -151,6 +163,7 @@ module _ (laws : LiftLaws) (stages values : ℕ) (pipes : List Pipe) (cut : Cut)
       let e : shard ≡ shard + 0 = omega arith in
       record {
         r = r;
+        among = refl;
         places = places;
         is = refl;
         was = subst (λ (n : ℕ). WasLifted cut n r kept places) e (subst (λ (x : LaneCut). WasLifted cut shard r x places) (same_Some k kept is) h.0);
@@ -158,7 +171,7 @@ module _ (laws : LiftLaws) (stages values : ℕ) (pipes : List Pipe) (cut : Cut)
   one_at shard (r ∷ shards) (k ∷ lanes) (places ∷ lists) h (suc s) kept is =
       let e : (shard + 1) + s ≡ shard + suc s = omega arith in
       let o = one_at (shard + 1) shards lanes lists h.1 s kept is in
-      record { r = o.r; places = o.places; is = o.is; was = subst (λ (n : ℕ). WasLifted cut n o.r kept o.places) e o.was }
+      record { r = o.r; among = o.among; places = o.places; is = o.is; was = subst (λ (n : ℕ). WasLifted cut n o.r kept o.places) e o.was }
 
   same_lists : (xs ys : List LaneCut) → length xs ≡ length ys
       → ((s : ℕ) (x y : LaneCut) → slice_get xs s ≡ Some x → slice_get ys s ≡ Some y → x ≡ y) → xs ≡ ys
@@ -181,19 +194,47 @@ module _ (laws : LiftLaws) (stages values : ℕ) (pipes : List Pipe) (cut : Cut)
   lifted_length place [] = refl
   lifted_length place (l ∷ lanes) = ap suc (lifted_length place lanes)
 
+  over_at : (texts : List (List ℕ)) (lanes : List LaneCut) (s : ℕ) (own : List ℕ) (y : LaneCut) → slice_get texts s ≡ Some own
+      → slice_get (lanes_over texts lanes) s ≡ Some y
+      → (lane : LaneCut) × (slice_get lanes s ≡ Some lane) × (y ≡ retraced_cut (take lane.offset own) lane)
+  over_at texts [] s own y there is = absurd (none-some y is)
+  over_at [] (l ∷ lanes) s own y there is = absurd (none-some own there)
+  over_at (t ∷ texts) (l ∷ lanes) zero own y there is =
+      (l, refl, sym (same_Some (retraced_cut (take l.offset t) l) y is) ∙ ap (λ (x : List ℕ). retraced_cut (take l.offset x) l) (same_Some t own there))
+  over_at (t ∷ texts) (l ∷ lanes) (suc s) own y there is = over_at texts lanes s own y there is
+
+  over_length : (texts : List (List ℕ)) (lanes : List LaneCut) → length (lanes_over texts lanes) ≡ length lanes
+  over_length texts [] = refl
+  over_length [] (l ∷ lanes) = refl
+  over_length (t ∷ texts) (l ∷ lanes) = ap suc (over_length texts lanes)
+
+  whole_at : (shards : List ReadTo) (s : ℕ) (r : ReadTo) → slice_get shards s ≡ Some r → slice_get (map whole shards) s ≡ Some (whole r)
+  whole_at [] s r is = absurd (none-some r is)
+  whole_at (x ∷ shards) zero r is = ap (λ (y : ReadTo). Some (whole y)) (same_Some x r is)
+  whole_at (x ∷ shards) (suc s) r is = whole_at shards s r is
+
   lanes_placed : (shards : List ReadTo) (lanes : List LaneCut) (lists : List (List (ℕ × ℕ))) → length lanes ≡ length cut.lanes
-      → WereLifted cut 0 shards lanes lists → lanes ≡ (lifted_cut (listed_place lists) cut).lanes
+      → WereLifted cut 0 shards lanes lists → lanes ≡ lanes_over (map whole shards) (lifted_cut (listed_place lists) cut).lanes
   lanes_placed shards lanes lists count h =
-      same_lists lanes (map (lifted_lane (listed_place lists)) cut.lanes) (count ∙ sym (lifted_length (listed_place lists) cut.lanes)) one
+      same_lists lanes (lanes_over texts placed) (count ∙ sym (over_length texts placed ∙ lifted_length (listed_place lists) cut.lanes)) one
     where
-      one : (s : ℕ) (x y : LaneCut) → slice_get lanes s ≡ Some x → slice_get (map (lifted_lane (listed_place lists)) cut.lanes) s ≡ Some y → x ≡ y
+      texts : List (List ℕ)
+      texts = map whole shards
+
+      placed : List LaneCut
+      placed = map (lifted_lane (listed_place lists)) cut.lanes
+
+      one : (s : ℕ) (x y : LaneCut) → slice_get lanes s ≡ Some x → slice_get (lanes_over texts placed) s ≡ Some y → x ≡ y
       one s x y is also =
           let o = one_at 0 shards lanes lists h s x is in
-          let l = lifted_at (listed_place lists) cut.lanes s y also in
+          let v = over_at texts placed s (whole o.r) y (whole_at shards s o.r o.among) also in
+          let l = lifted_at (listed_place lists) cut.lanes s v.0 v.1 in
           let z : 0 + s ≡ s = omega arith in
           let was = subst (λ (n : ℕ). WasLifted cut n o.r x o.places) z o.was in
+          let own : v.0 ≡ lifted_lane (listed_place lists) was.lane = l.2 ∙ ap (lifted_lane (listed_place lists)) (same_Some l.0 was.lane (sym l.1 ∙ was.there)) in
           lane_placed lists s o.r x o.places o.is was
-          ∙ ap (lifted_lane (listed_place lists)) (same_Some was.lane l.0 (sym was.there ∙ l.1)) ∙ sym l.2
+          ∙ ap (λ (bytes : List ℕ). retraced_cut bytes (lifted_lane (listed_place lists) was.lane)) (sym (read_of_whole s o.r x o.places was))
+          ∙ ap (λ (c : LaneCut). retraced_cut (take c.offset (whole o.r)) c) (sym own) ∙ sym v.2
 
   -- each list is of wanted lines with their places
   few_whole : (first rest : List ℕ) → whole_lines first rest ≤ length (lines_of first)

@@ -1,8 +1,8 @@
 //! What lanes, parts and a book begin with, taken out of a cut.
-ghost use Rattle.std.specs.Prelude.{◌≡◌, ℕ, List, IfOk, IfSome, false, length, map, true};
+ghost use Rattle.std.specs.Prelude.{◌≡◌, ◌==◌, ℕ, List, IfOk, IfSome, false, length, map, true};
 ghost use Rattle.eql_cut.specs.Placing.{IsUnplaced, LinesAscend, orders_in, listed_place};
-ghost use Rattle.eql_lane.specs.declared.make.LaneStart.TheVariants.{From as FromCut};
-ghost use Rattle.eql_resume.specs.Beginnings.{LanesBegin, WantedAre, fresh_rest, fresh_starts, lifts_of, placed_if, rest_by, rest_of, rest_orders};
+ghost use Rattle.eql_lane.specs.declared.make.LaneStart.TheVariants.{From as FromCut, Retrace};
+ghost use Rattle.eql_resume.specs.Beginnings.{LanesBegin, WantedAre, fresh_rest, fresh_starts, lifts_of, placed_if, rest_by, rest_of, rest_orders, starts_by};
 ghost use Rattle.eql_resume.specs.Finding.{Suits};
 
 use crate::fresh::fresh_book;
@@ -65,6 +65,17 @@ fn kept_lanes(alloc: Global, lanes: LaneCuts) -> Result<Vec<LaneStart>, Memory>
     Ok(starts)
 }
 
+// Lanes that begin with what a cut without digests keeps of them.
+fn retraced_lanes(alloc: Global, lanes: LaneCuts) -> Result<Vec<LaneStart>, Memory>
+    ensures { IfOk result (λ starts. starts.items ≡ map Retrace lanes) }
+{
+    let mut starts = Vec::new(alloc);
+    for lane in lanes.into_items() {
+        starts.push(LaneStart::Retrace(lane))?;
+    }
+    Ok(starts)
+}
+
 // The lines of each shard that a cut names.
 fn wanted_lines(alloc: Global, cut: &Cut, shards: u32) -> Result<Vec<Lines>, Memory>
     ensures { IfOk result (λ lists. (length lists.items ≡ shards)
@@ -113,13 +124,18 @@ fn begin_fresh(alloc: Global, shards: u32, pipes: &Pipes) -> Result<Beginning, M
     })
 }
 
-// Begins with a cut that has places.
-fn begin_kept(alloc: Global, cut: Cut) -> Result<Beginning, Memory>
-    ensures lanes { IfOk result (λ b. b.lanes.items ≡ map FromCut cut.lanes) }
+// Begins with a cut that has places, and may have digests.
+fn begin_kept(alloc: Global, cut: Cut, digested: bool) -> Result<Beginning, Memory>
+    ensures lanes { IfOk result (λ b. b.lanes.items ≡ starts_by digested cut.lanes) }
     ensures rest { IfOk result (λ b. b.rest ≡ rest_of cut false) }
 {
+    let lanes = if digested {
+        kept_lanes(alloc, cut.lanes)?
+    } else {
+        retraced_lanes(alloc, cut.lanes)?
+    };
     Ok(Beginning {
-        lanes: kept_lanes(alloc, cut.lanes)?,
+        lanes,
         rest: Pending {
             mark: Mark::At(cut.mark),
             holders: cut.holders,
@@ -150,11 +166,11 @@ fn begin_lifted(alloc: Global, cut: Cut, shards: u32) -> Result<Beginning, Memor
 }
 
 /// Takes a cut apart, or begins afresh where there is none, with a lane for each of so many shards and these pipes. The cut is
-/// one of a run of so many stages and keys of so many values.
+/// one of a run of so many stages and keys of so many values, and its text is in this format.
 pub fn begin(
     alloc: Global,
     cut: Option<Cut>,
-    unplaced: bool,
+    format: u8,
     stages: u32,
     values: u32,
     shards: u32,
@@ -162,19 +178,19 @@ pub fn begin(
 ) -> Result<Beginning, Memory>
     requires suits { IfSome cut (λ c. Suits stages values pipes.now c.head c
         × (c.head.shards ≡ shards)) }
-    requires unplaced { IfSome cut (λ c. unplaced ≡ true → IsUnplaced (orders_in c)) }
-    ensures lanes { IfOk result (λ b. LanesBegin cut unplaced shards b.lanes.items) }
-    ensures rest { IfOk result (λ b. b.rest ≡ rest_by pipes.now unplaced cut) }
+    requires unplaced { IfSome cut (λ c. format ≡ 1 → IsUnplaced (orders_in c)) }
+    ensures lanes { IfOk result (λ b. LanesBegin cut format shards b.lanes.items) }
+    ensures rest { IfOk result (λ b. b.rest ≡ rest_by pipes.now (format == 1) cut) }
 {
     cuts_may_begin();
     events_are_named();
     match cut {
         None => begin_fresh(alloc, shards, pipes),
         Some(cut) => {
-            if unplaced {
+            if format == 1 {
                 begin_lifted(alloc, cut, shards)
             } else {
-                begin_kept(alloc, cut)
+                begin_kept(alloc, cut, format >= 4)
             }
         }
     }

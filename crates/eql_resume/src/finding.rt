@@ -25,7 +25,8 @@ use std::alloc::Global;
 pub struct FoundCut {
     /// The cut, with the head of the run and fit for it.
     pub cut: Option<Cut>,
-    /// The format of its text, 1 to 3, or 0 where there is no cut. In format 1 its events have no places yet.
+    /// The format of its text, 1 to 4, or 0 where there is no cut. In format 1 its events have no places yet, and in the first
+    /// three its lanes have no digests.
     pub format: u8,
     /// Where the last cut stands.
     pub state: CkState,

@@ -13,9 +13,9 @@ use Rattle.eql_outside.specs.Plans.{FaultPlan}
 use Rattle.eql_outside.specs.Unfailing.{IsUnfailing}
 use Rattle.eql_values.specs.declared.cut.LaneCut.{LaneCut}
 use Rattle.eql_lane.specs.Lanes.{LaneState, beginning_lane}
-use Rattle.eql_lane.specs.Noting.{IsWholeLine}
-use Rattle.eql_lane.specs.Passing.{Finds}
-use Rattle.eql_lane.specs.Starts.{BeginsAs, IsNotMade, cut_of, wanted_of}
+use Rattle.eql_lane.specs.Noting.{IsWholeLine, retraced_cut}
+use Rattle.eql_lane.specs.Passing.{Agrees, Finds}
+use Rattle.eql_lane.specs.Starts.{BeginsAs, IsNotMade}
 use Rattle.eql_lane.specs.Views.{IsTextOf, LaneView}
 use Rattle.eql_lane.specs.declared.make.LaneRefused.{LaneRefused}
 use Rattle.eql_lane.specs.declared.make.LaneRefused.TheVariants as refused
@@ -27,6 +27,7 @@ use Rattle.eql_shards.proofs.BackLemmas.{CameOne, none_failed}
 
 abbrev is_failed : LaneRefused → Bool
 is_failed (refused.Short at had) = false
+is_failed refused.Differs = false
 is_failed (refused.NoLine line) = false
 is_failed refused.Grown = false
 is_failed refused.Failed = true
@@ -65,16 +66,28 @@ drop_front [] [] = refl
 drop_front [] (x ∷ b) = refl
 drop_front (x ∷ a) b = drop_front a b
 
-serves_from : (o : Option (List ℕ)) (cut : LaneCut) → IfSome o (λ t. cut.offset ≤ length t)
+-- the bytes of a text that a cut says were read, which have its digest
+record HasRead (cut : LaneCut) (text : List ℕ) : Type 0 where
+  there : cut.offset ≤ length text
+  agrees : Agrees (Some cut.digest) cut.offset text
+
+serves_from : (o : Option (List ℕ)) (cut : LaneCut) → IfSome o (HasRead cut)
     → (cut.closed ≡ true → IfSome o (λ t. length t ≡ cut.offset)) → IfSome o (Serves (start.From cut))
-serves_from None cut there ended = tt
-serves_from (Some t) cut there ended =
-    record { there = there; whole = All-nil (IsWholeLine (take cut.offset t) (drop cut.offset t)); ended = ended }
+serves_from None cut read ended = tt
+serves_from (Some t) cut read ended =
+    record { there = read.there; agrees = read.agrees; whole = All-nil (IsWholeLine (take cut.offset t) (drop cut.offset t)); ended = ended }
+
+-- where the digest is set anew, the text has any
+serves_retrace : (o : Option (List ℕ)) (cut : LaneCut) (first : List ℕ) → IfSome o (HasRead (retraced_cut first cut))
+    → (cut.closed ≡ true → IfSome o (λ t. length t ≡ cut.offset)) → IfSome o (Serves (start.Retrace cut))
+serves_retrace None cut first read ended = tt
+serves_retrace (Some t) cut first read ended =
+    record { there = read.there; agrees = tt; whole = All-nil (IsWholeLine (take cut.offset t) (drop cut.offset t)); ended = ended }
 
 serves_fresh : (o : Option (List ℕ)) → IfSome o (Serves start.Fresh)
 serves_fresh None = tt
 serves_fresh (Some t) =
-    record { there = omega arith; whole = All-nil (IsWholeLine (take 0 t) (drop 0 t)); ended = λ e. absurd (false≢true e) }
+    record { there = omega arith; agrees = tt; whole = All-nil (IsWholeLine (take 0 t) (drop 0 t)); ended = λ e. absurd (false≢true e) }
 
 serves_lift : (o : Option (List ℕ)) (cut : LaneCut) (wanted : List ℕ) (places : List (ℕ × ℕ)) → Finds o cut.offset wanted places
     → (cut.closed ≡ true → IfSome o (λ t. length t ≡ cut.offset)) → IfSome o (Serves (start.Lift cut wanted))
@@ -85,23 +98,30 @@ serves_lift (Some t) cut wanted places f ended =
     let behind : drop cut.offset t ≡ f.rest = ap (drop cut.offset) f.told ∙ ap (λ (n : ℕ). drop n (f.first ++ f.rest)) (sym f.count) ∙ drop_front f.first f.rest in
     record {
       there = omega (arith, long, f.count);
+      agrees = tt;
       whole = subst (λ (x : List ℕ). All (IsWholeLine x (drop cut.offset t)) wanted) (sym front)
           (subst (λ (x : List ℕ). All (IsWholeLine f.first x) wanted) (sym behind) f.located.whole);
       ended = ended;
     }
 
 module _ {S L : Type 0} (left lent_as : S → Option (List ℕ)) (faults : S → ℕ) where
-  fits_in : (o : Option (List ℕ)) (lane : LaneView S L) (cut : LaneCut) (n : ℕ) → lane.state ≡ beginning_lane cut n → IsTextOf left o lane
-      → IfSome o (λ t. cut.offset ≤ length t)
-  fits_in None lane cut n e text = tt
-  fits_in (Some t) lane cut n e text = subst (λ (k : ℕ). k ≤ length t) (ap LaneState.taken e) text.within
+  read_in : (o : Option (List ℕ)) (lane : LaneView S L) (cut : LaneCut) (n : ℕ) → lane.state ≡ beginning_lane cut n → IsTextOf left o lane
+      → IfSome o (HasRead cut)
+  read_in None lane cut n e text = tt
+  read_in (Some t) lane cut n e text = record {
+    there = subst (λ (k : ℕ). k ≤ length t) (ap LaneState.taken e) text.within;
+    agrees = subst (λ (c : LaneCut). Agrees (Some c.digest) c.offset t) (ap LaneState.cut e) text.digest;
+  }
 
   -- a lane over a text was made: so it serves
   pub made_serves : (source : S) (reader : L) (shard : ℕ) (slack : Option ℕ) (b : LaneStart) (lane : LaneView S L)
       → BeginsAs left lent_as faults source reader shard slack b lane → IfSome (left source) (Serves b)
   made_serves source reader shard slack start.Fresh lane made = serves_fresh (left source)
   made_serves source reader shard slack (start.From cut) lane made =
-      serves_from (left source) cut (fits_in (left source) lane cut (faults source) made.state made.text) made.ended
+      serves_from (left source) cut (read_in (left source) lane cut (faults source) made.state made.text) made.ended
+  made_serves source reader shard slack (start.Retrace cut) lane made =
+      serves_retrace (left source) cut made.first
+      (read_in (left source) lane (retraced_cut made.first cut) (faults source) made.begins.state made.begins.text) made.begins.ended
   made_serves source reader shard slack (start.Lift cut wanted) lane made =
       serves_lift (left source) cut wanted lane.places made.finds made.begins.ended
 
@@ -110,18 +130,21 @@ module _ {S L : Type 0} (left lent_as : S → Option (List ℕ)) (faults : S →
       → BeginsAs left lent_as faults source reader shard slack b lane → lane.state.faults ≡ faults source
   made_faults source reader shard slack start.Fresh lane made = ap LaneState.faults made.state
   made_faults source reader shard slack (start.From cut) lane made = ap LaneState.faults made.state
+  made_faults source reader shard slack (start.Retrace cut) lane made = ap LaneState.faults made.begins.state
   made_faults source reader shard slack (start.Lift cut wanted) lane made = ap LaneState.faults made.begins.state
 
   pub made_named : (source : S) (reader : L) (shard : ℕ) (slack : Option ℕ) (b : LaneStart) (lane : LaneView S L)
       → BeginsAs left lent_as faults source reader shard slack b lane → lent_as lane.source ≡ lent_as source
   made_named source reader shard slack start.Fresh lane made = made.named
   made_named source reader shard slack (start.From cut) lane made = made.named
+  made_named source reader shard slack (start.Retrace cut) lane made = made.begins.named
   made_named source reader shard slack (start.Lift cut wanted) lane made = made.begins.named
 
   pub made_text : (source : S) (reader : L) (shard : ℕ) (slack : Option ℕ) (b : LaneStart) (lane : LaneView S L)
       → BeginsAs left lent_as faults source reader shard slack b lane → IsTextOf left (left source) lane
   made_text source reader shard slack start.Fresh lane made = made.text
   made_text source reader shard slack (start.From cut) lane made = made.text
+  made_text source reader shard slack (start.Retrace cut) lane made = made.begins.text
   made_text source reader shard slack (start.Lift cut wanted) lane made = made.begins.text
 
 -- ---- one lane after another
@@ -191,9 +214,10 @@ front_at (d ∷ ds) rest (suc s) x less is = front_at ds rest s x (omega (arith,
 -- ---- a lane that isn't made
 module _ {S L : Type 0} (left lent_as : S → Option (List ℕ)) (faults : S → ℕ) (plan : S → Option FaultPlan) (read_of : L → Reads)
     (reads : Reads) (slack : Option ℕ) where
-  often : (why : LaneRefused) (b : LaneStart) (x back : S) → faults x ≡ 0 → IsNotMade left lent_as faults (cut_of b) (wanted_of b) x why back
+  often : (why : LaneRefused) (b : LaneStart) (x back : S) → faults x ≡ 0 → IsNotMade left lent_as faults b x why back
       → why ≡ refused.Failed → 0 < faults back
   often (refused.Short at had) b x back none r e = absurd (false≢true (ap is_failed e))
+  often refused.Differs b x back none r e = absurd (false≢true (ap is_failed e))
   often (refused.NoLine line) b x back none r e = absurd (false≢true (ap is_failed e))
   often refused.Grown b x back none r e = absurd (false≢true (ap is_failed e))
   often refused.Failed b x back none r e = rose_from_none (faults x) (faults back) none r.cause
@@ -203,7 +227,7 @@ module _ {S L : Type 0} (left lent_as : S → Option (List ℕ)) (faults : S →
   pub halted : (why : LaneRefused) (all rest less : List S) (starts left_over fewer : List LaneStart) (lanes : List (LaneView S L)) (shard : ℕ)
       (x back : S) (b : LaneStart) (before now : ℕ) (names names' : List ℕ → ℕ) → rest ≡ x ∷ less → left_over ≡ b ∷ fewer → shard ≡ length lanes
       → HaveLanes left lent_as faults plan read_of reads slack all rest starts left_over lanes → faults x ≡ 0
-      → IsNotMade left lent_as faults (cut_of b) (wanted_of b) x why back → (IsUnfailing (plan x) → why ≢ refused.Failed)
+      → IsNotMade left lent_as faults b x why back → (IsUnfailing (plan x) → why ≢ refused.Failed)
       → CameOne (return_of lent_as faults back) before now names names'
       → StopsAmong left lent_as faults plan read_of reads slack why shard all less starts lanes before now names names'
   halted why all rest less starts left_over fewer lanes shard x back b before now names names' is begins at f none r calm one =

@@ -9,7 +9,8 @@ use Rattle.eql_lane.specs.declared.make.LaneRefused.{LaneRefused}
 use Rattle.eql_lane.specs.declared.make.LaneRefused.TheVariants as refused
 use Rattle.eql_lane.specs.declared.make.LaneStart.{LaneStart}
 use Rattle.eql_lane.specs.Noting.{IsWholeLine}
-use Rattle.eql_lane.specs.Starts.{BeginsAs, IsNotMade, cut_of, wanted_of}
+use Rattle.eql_lane.specs.Passing.{Agrees}
+use Rattle.eql_lane.specs.Starts.{BeginsAs, IsNotMade, cut_of, known_of, wanted_of}
 use Rattle.eql_lane.specs.Views.{LaneView}
 
 module _ {S L : Type 0} (left lent_as : S → Option (List ℕ)) (faults : S → ℕ) (plan : S → Option FaultPlan) (read_of : L → Reads) where
@@ -27,10 +28,11 @@ module _ {S L : Type 0} (left lent_as : S → Option (List ℕ)) (faults : S →
       IsOver reads slack shard source start lane × AreOver reads slack (shard + 1) sources starts lanes
   AreOver reads slack shard _ _ _ = ⊥
 
--- a text over which a lane that begins so is made: it has the bytes that are passed over, in them the wanted lines, and ends
--- behind them where the cut says so
+-- a text over which a lane that begins so is made: it has the bytes that are passed over, with the digest that the start knows, in
+-- them the wanted lines, and ends behind them where the cut says so
 pub record Serves (start : LaneStart) (text : List ℕ) : Type 0 where
   pub there : (cut_of start).offset ≤ length text
+  pub agrees : Agrees (known_of start) (cut_of start).offset text
   pub whole : All (IsWholeLine (take (cut_of start).offset text) (drop (cut_of start).offset text)) (wanted_of start)
   pub ended : (cut_of start).closed ≡ true → length text ≡ (cut_of start).offset
 
@@ -44,7 +46,7 @@ module _ {S : Type 0} (left lent_as : S → Option (List ℕ)) (faults : S → �
     pub start : LaneStart
     pub begins : slice_get starts shard ≡ Some start
     pub back : S
-    pub refused_by : IsNotMade left lent_as faults (cut_of start) (wanted_of start) source why back
+    pub refused_by : IsNotMade left lent_as faults start source why back
     pub earlier : (s : ℕ) (x : S) (b : LaneStart) → s < shard → slice_get sources s ≡ Some x → slice_get starts s ≡ Some b
         → IfSome (left x) (Serves b)
     pub steady : why ≢ refused.Failed → (now ≡ before) × FaultsAreSame names names'

@@ -3,7 +3,7 @@ ghost use Rattle.std.specs.Prelude.{◌≡◌, ◌≢◌, ◌≤◌, ◌-◌, Al
 ghost use Rattle.eql_outside.specs.Unfailing.{IsUnfailing};
 ghost use Rattle.eql_outside.specs.Faults.{FaultsAreSame};
 ghost use Rattle.eql_lane.specs.Slacks.{greatest_slack_ms};
-ghost use Rattle.eql_lane.specs.Starts.{MayStart, IsNotMade, cut_of, wanted_of};
+ghost use Rattle.eql_lane.specs.Starts.{MayStart, IsNotMade};
 ghost use Rattle.eql_inputs.specs.Shelves.{KeepsShelf};
 ghost use Rattle.eql_shards.specs.Lanes.{AreOver, StopsAmong, IsOver, StopsMaking};
 
@@ -36,7 +36,7 @@ fn lane_over<S: Source, F: Readers>(
     ensures made { IfOk result (IsOver S.left S.lent_as S.fault_count S.fault_plan
         F.Reader.read_of (F.reads readers.now) slack shard source start) }
     ensures refused { IfErr result (λ refused. IsNotMade S.left S.lent_as S.fault_count
-        (cut_of start) (wanted_of start) source refused.0 refused.1) }
+        start source refused.0 refused.1) }
     ensures unfailing { IsUnfailing (S.fault_plan source)
         → IfErr result (λ refused. refused.0 ≢ LaneRefused.Failed) }
 {
