@@ -86,6 +86,9 @@ fn cut_line(alloc: Global, why: &CutStop) -> Result<String, Memory>
             "checkpoint: Short shard {} offset {} had {}\n",
             shard, offset, had
         )?),
+        CutStop::OtherBytes { shard } => {
+            Ok(format!(in alloc; "checkpoint: Differs shard {}\n", shard)?)
+        }
         CutStop::NoLine { shard, line } => {
             Ok(format!(in alloc; "checkpoint: NoLine shard {} line {}\n", shard, line)?)
         }

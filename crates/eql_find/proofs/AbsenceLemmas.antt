@@ -9,12 +9,13 @@ use Rattle.eql_find.specs.declared.error.CutStop.{CutStop}
 use Rattle.eql_find.specs.declared.error.FindError.{FindError}
 use Rattle.eql_find.specs.declared.error.FindError.TheVariants as run
 use Rattle.eql_find.specs.Errors.{AbsencesFollow, IsRefusal}
-use Rattle.eql_find.specs.Stops.{IsErrorAt, failed, grown, no_line, short, unmade}
+use Rattle.eql_find.specs.Stops.{IsErrorAt, failed, grown, no_line, other_bytes, short, unmade}
 
 -- one whose lanes weren't made
 pub made_absence : (shards : List (List ℕ)) (shard : ℕ) (why : LaneRefused) (h : FindError) (before now : ℕ) → IsErrorAt shards shard why h
     → now ≡ before → AbsencesFollow {A = Unit {0}} (Err h) before now
 made_absence shards shard _ _ before now (short offset had) same = same
+made_absence shards shard _ _ before now other_bytes same = same
 made_absence shards shard _ _ before now (no_line line) same = same
 made_absence shards shard _ _ before now grown same = same
 made_absence shards shard _ _ before now (failed name there) same = same

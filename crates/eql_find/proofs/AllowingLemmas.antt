@@ -1,34 +1,39 @@
 -- A search may begin as a run was found to begin, and over which texts it does.
 use Rattle.std.proofs.Common.{◌≡◌, ◌≢◌, ◌*◌, ℕ, ℤ, Bool, true, false, List, [], ◌∷◌, Option, Some, None, refl, sym, ap, ◌∙◌, subst, length, map}
-use Rattle.std.specs.Prelude.{◌&&◌, All, IsTrue, pos}
+use Rattle.std.specs.Prelude.{◌&&◌, ◌==◌, All, IsTrue, if◌then◌else◌, pos}
 use Rattle.std.specs.Option.{option_map}
 use Rattle.std.specs.List.{list_all}
 use Rattle.std.specs.FinMap.Entries.{is_sorted}
 use Rattle.std.specs.Ordering.{nat_cmp}
+use Rattle.std.proofs.lemmas.Bool.{eqb-true}
 use Rattle.std.proofs.lemmas.List.{length-map}
 use Rattle.std.proofs.lemmas.List.Elements.{All-cons, All-head, All-nil, All-tail, All-weaker}
 use Rattle.eql_values.specs.declared.cut.LaneCut.{LaneCut}
 use Rattle.eql_values.specs.declared.order.Mark.TheVariants.{At}
 use Rattle.eql_laws.specs.Fitting.{Fits, Kept, StandsInOrder}
+use Rattle.eql_laws.specs.Places.{whole as whole_text}
 use Rattle.eql_words.specs.declared.commands.Find.{Find}
 use Rattle.eql_words.specs.Bounds.{FindIsBounded}
 use Rattle.eql_lane.specs.Lanes.{fresh_cut}
 use Rattle.eql_lane.specs.Views.{LaneView}
 use Rattle.eql_cut.specs.declared.cut.Cut.{Cut}
 use Rattle.eql_cut.specs.Domain.{IsCut, kept_by}
-use Rattle.eql_cut.specs.Fitting.{FitsRun}
+use Rattle.eql_cut.specs.Fitting.{FitsRun, run_of as bare_run}
 use Rattle.eql_cut.specs.Lifting.{LiftedFits, LiftedStands}
 use Rattle.eql_cut.specs.Placing.{IsUnplaced, LinesAscend, lifted_cut, orders_in, listed_place}
 use Rattle.eql_conductor.specs.Openings.{FitMayBegin}
-use Rattle.eql_resume.specs.Beginnings.{Rest, placed_if, rest_by}
+use Rattle.eql_resume.specs.Beginnings.{Keeping, Rest, keeping_of, placed_if, rest_by, undigested, unplaced, whole}
 use Rattle.eql_resume.specs.Finding.{Suits}
 use Rattle.eql_resume.specs.Lifted.{LiftsAs, LiftedIsCut}
+use Rattle.eql_runs.proofs.Overs.{fits_over, stands_over}
 use Rattle.eql_runs.specs.RunLaws.{FitsAtAnySpan}
 use Rattle.eql_runs.specs.Searches.{run_of}
+use Rattle.eql_runs.specs.Starts.{cut_over, keeps_digests}
 use Rattle.eql_search.specs.Beginnings.{BeginsFrom, MayBegin, cuts_of}
 use Rattle.eql_find.specs.declared.plan.PlannedQuery.{PlannedQuery}
-use Rattle.eql_find.specs.Searching.{BeganLifted, BeganWith, IsFresh, bare, places_in, rules_in, search_in, slack_told}
+use Rattle.eql_find.specs.Searching.{BeganBy, BeganLifted, IsFresh, bare, places_in, rules_in, search_in, slack_told}
 use Rattle.eql_find.specs.Starting.{pipes_of, stages_of, values_of}
+use Rattle.eql_find.proofs.RefusingLemmas.{first_keeps_none}
 use Rattle.eql_find.proofs.TextLemmas.{asked_slack}
 
 -- the laws on which this rests
@@ -50,51 +55,95 @@ none_ascend (l ∷ ls) all = both (is_sorted nat_cmp l.places) (list_all (is_sor
     both true b e h = h
     both false b e h = absurd cc
 
--- a cut with the places of its lanes has the lanes that began with it
-abbrev pub placed_by : List (List (ℕ × ℕ)) → (unplaced : Bool) → Cut → Cut
-placed_by lists true cut = lifted_cut (listed_place lists) cut
-placed_by lists false cut = cut
+-- ---- what the text of a cut keeps
+-- places are wanted where it keeps none, as in the first format alone
+abbrev pub is_unplaced : Keeping → Bool
+is_unplaced whole = false
+is_unplaced undigested = false
+is_unplaced unplaced = true
+
+unplaced_as : (digested first : Bool) → (digested ≡ true → first ≡ true → ⊥)
+    → is_unplaced (if digested then whole else if first then unplaced else undigested) ≡ first
+unplaced_as true true both = absurd (both refl refl)
+unplaced_as true false both = refl
+unplaced_as false true both = refl
+unplaced_as false false both = refl
+
+pub unplaced_is : (format : ℕ) → is_unplaced (keeping_of format) ≡ (format == 1)
+unplaced_is format =
+    unplaced_as (keeps_digests format) (format == 1) (λ keeps one. first_keeps_none format (eqb-true format 1 one) keeps)
+
+-- the texts whose digests lanes began with
+abbrev pub over_of : {S L : Type 0} → (texts : Option (List (List ℕ))) (cut : Cut) (lanes : List (LaneView S L)) (k : Keeping)
+    → BeganBy texts k cut lanes → List (List ℕ)
+over_of texts cut lanes whole began = []
+over_of texts cut lanes undigested began = began.over
+over_of texts cut lanes unplaced began = map whole_text began.shards
+
+-- a cut with the digests of such texts, and with the places of its lanes, has the lanes that began with it
+abbrev pub placed_by : (over : List (List ℕ)) → (lists : List (List (ℕ × ℕ))) → Keeping → Cut → Cut
+placed_by over lists whole cut = cut
+placed_by over lists undigested cut = cut_over over cut
+placed_by over lists unplaced cut = cut_over over (lifted_cut (listed_place lists) cut)
 
 -- ---- with a cut
 module _ {S L : Type 0} (laws : BeginLaws) (find : Find) (p : PlannedQuery) (bounds : FindIsBounded find) (texts : Option (List (List ℕ)))
     (lanes : List (LaneView S L)) (format : ℕ) (cut : Cut) (asked : find.checkpoint ≢ None)
-    (suits : Suits (stages_of p) (values_of p) (pipes_of p) cut.head cut) (unplaced : format ≡ 1 → IsUnplaced (orders_in cut))
+    (suits : Suits (stages_of p) (values_of p) (pipes_of p) cut.head cut) (bare_of : format ≡ 1 → IsUnplaced (orders_in cut))
     (slack_is : cut.head.slack ≡ slack_told find.slack) (many : length lanes ≡ length cut.lanes) where
   pub lifted_as : (began : BeganLifted texts cut lanes) → LiftsAs cut began.shards (cuts_of lanes) (places_in lanes)
   lifted_as began =
       laws.lifted_is (stages_of p) (values_of p) (pipes_of p) cut began.shards (cuts_of lanes) (places_in lanes) suits
       (length-map lanes (λ (lane : LaneView S L). lane.state.cut) ∙ many) began.were_lifted
 
-  pub ascend_by : (u : Bool) → BeganWith texts u (Some cut) lanes → LinesAscend (places_in lanes)
-  ascend_by false began = none_ascend lanes began.no_places
-  ascend_by true began = (lifted_as began).ascend
+  pub ascend_by : (k : Keeping) → BeganBy texts k cut lanes → LinesAscend (places_in lanes)
+  ascend_by whole began = none_ascend lanes began.no_places
+  ascend_by undigested began = none_ascend lanes began.no_places
+  ascend_by unplaced began = (lifted_as began).ascend
 
   -- the lanes keep what the placed cut does
-  pub lanes_are : (u : Bool) → BeganWith texts u (Some cut) lanes → cuts_of lanes ≡ (placed_by (places_in lanes) u cut).lanes
-  lanes_are false began = began.cuts_are
-  lanes_are true began = (lifted_as began).lanes_are
+  pub lanes_are : (k : Keeping) (began : BeganBy texts k cut lanes)
+      → cuts_of lanes ≡ (placed_by (over_of texts cut lanes k began) (places_in lanes) k cut).lanes
+  lanes_are whole began = began.cuts_are
+  lanes_are undigested began = began.cuts_are
+  lanes_are unplaced began = (lifted_as began).lanes_are
 
-  pub rest_placed : (u : Bool) → placed_if u (listed_place (places_in lanes)) (rest_by (pipes_of p) u (Some cut))
-      ≡ (let c = placed_by (places_in lanes) u cut in let r : Rest = record { mark = At cut.mark; holders = c.holders; book = c.book; unplaced = false } in r)
-  rest_placed false = refl
-  rest_placed true = refl
+  module _ (over : List (List ℕ)) where
+    pub rest_placed : (k : Keeping) → placed_if (is_unplaced k) (listed_place (places_in lanes)) (rest_by (pipes_of p) (is_unplaced k) (Some cut))
+        ≡ (let c = placed_by over (places_in lanes) k cut in
+        let r : Rest = record { mark = At cut.mark; holders = c.holders; book = c.book; unplaced = false } in r)
+    rest_placed whole = refl
+    rest_placed undigested = refl
+    rest_placed unplaced = refl
 
-  -- the placed cut fits and stands in order
-  fits_by : (u : Bool) → (u ≡ true → IsUnplaced (orders_in cut)) → FitsRun (stages_of p) (values_of p) (pipes_of p) (placed_by (places_in lanes) u cut)
-  fits_by false none = suits.fits
-  fits_by true none = (laws.lifted_fit (listed_place (places_in lanes)) (stages_of p) (values_of p) (pipes_of p) cut (none refl)).1 suits.fits
+    -- the placed cut fits and stands in order
+    fits_by : (k : Keeping) → (is_unplaced k ≡ true → IsUnplaced (orders_in cut))
+        → FitsRun (stages_of p) (values_of p) (pipes_of p) (placed_by over (places_in lanes) k cut)
+    fits_by whole none = suits.fits
+    fits_by undigested none = fits_over (bare_run (stages_of p) (values_of p) (pipes_of p) cut.head.slack) cut.head.shards over (kept_by cut) suits.fits
+    fits_by unplaced none =
+        let placed = lifted_cut (listed_place (places_in lanes)) cut in
+        fits_over (bare_run (stages_of p) (values_of p) (pipes_of p) cut.head.slack) cut.head.shards over (kept_by placed)
+        ((laws.lifted_fit (listed_place (places_in lanes)) (stages_of p) (values_of p) (pipes_of p) cut (none refl)).1 suits.fits)
 
-  stands_by : (u : Bool) → (u ≡ true → IsUnplaced (orders_in cut)) → IsCut (placed_by (places_in lanes) u cut)
-  stands_by false none = suits.is_cut
-  stands_by true none = laws.lifted_stands (listed_place (places_in lanes)) cut (none refl) suits.is_cut
+    over_is_cut : (c : Cut) → IsCut c → IsCut (cut_over over c)
+    over_is_cut c is = record { names = is.names; stands = stands_over c.head.shards over (kept_by c) is.stands }
 
-  pub same_head : (u : Bool) → (placed_by (places_in lanes) u cut).head ≡ cut.head
-  same_head false = refl
-  same_head true = refl
+    stands_by : (k : Keeping) → (is_unplaced k ≡ true → IsUnplaced (orders_in cut)) → IsCut (placed_by over (places_in lanes) k cut)
+    stands_by whole none = suits.is_cut
+    stands_by undigested none = over_is_cut cut suits.is_cut
+    stands_by unplaced none =
+        over_is_cut (lifted_cut (listed_place (places_in lanes)) cut) (laws.lifted_stands (listed_place (places_in lanes)) cut (none refl) suits.is_cut)
 
-  pub same_mark : (u : Bool) → (placed_by (places_in lanes) u cut).mark ≡ cut.mark
-  same_mark false = refl
-  same_mark true = refl
+    pub same_head : (k : Keeping) → (placed_by over (places_in lanes) k cut).head ≡ cut.head
+    same_head whole = refl
+    same_head undigested = refl
+    same_head unplaced = refl
+
+    pub same_mark : (k : Keeping) → (placed_by over (places_in lanes) k cut).mark ≡ cut.mark
+    same_mark whole = refl
+    same_mark undigested = refl
+    same_mark unplaced = refl
 
   -- so a search may begin with it
   kept_may : (c : Cut) → c.head.slack ≡ slack_told find.slack → c.head.shards ≡ length lanes → cuts_of lanes ≡ c.lanes
@@ -117,17 +166,19 @@ module _ {S L : Type 0} (laws : BeginLaws) (find : Find) (p : PlannedQuery) (bou
             (subst (λ (n : ℕ). StandsInOrder n (kept_by c)) count is.stands);
       }
 
-  pub may_from : (u : Bool) → (u ≡ true → IsUnplaced (orders_in cut)) → cut.head.shards ≡ length lanes → BeganWith texts u (Some cut) lanes
-      → (rest : Rest) → rest ≡ rest_by (pipes_of p) u (Some cut)
-      → (let r = placed_if u (listed_place (places_in lanes)) rest in
+  pub may_from : (k : Keeping) → (is_unplaced k ≡ true → IsUnplaced (orders_in cut)) → cut.head.shards ≡ length lanes → BeganBy texts k cut lanes
+      → (rest : Rest) → rest ≡ rest_by (pipes_of p) (is_unplaced k) (Some cut)
+      → (let r = placed_if (is_unplaced k) (listed_place (places_in lanes)) rest in
       MayBegin (rules_in (search_in find p)) (pipes_of p) r.mark (cuts_of lanes) r.holders r.book)
-  may_from u none shards began rest is =
-      let c = placed_by (places_in lanes) u cut in
+  may_from k none shards began rest is =
+      let over = over_of texts cut lanes k began in
+      let c = placed_by over (places_in lanes) k cut in
       subst (λ (r : Rest). MayBegin (rules_in (search_in find p)) (pipes_of p) r.mark (cuts_of lanes) r.holders r.book)
-      (sym (ap (placed_if u (listed_place (places_in lanes))) is ∙ rest_placed u))
+      (sym (ap (placed_if (is_unplaced k) (listed_place (places_in lanes))) is ∙ rest_placed over k))
       (subst (λ (t : ℤ). BeginsFrom (rules_in (search_in find p)) (pipes_of p) (length (cuts_of lanes)) (record { time = t; lanes = cuts_of lanes; holders = c.holders; book = c.book }))
-      (same_mark u)
-      (kept_may c (ap (λ h. h.slack) (same_head u) ∙ slack_is) (ap (λ h. h.shards) (same_head u) ∙ shards) (lanes_are u began) (fits_by u none) (stands_by u none)))
+      (same_mark over k)
+      (kept_may c (ap (λ h. h.slack) (same_head over k) ∙ slack_is) (ap (λ h. h.shards) (same_head over k) ∙ shards) (lanes_are k began)
+      (fits_by over k none) (stands_by over k none)))
 
 -- ---- afresh
 fresh_cuts : {S L : Type 0} (lanes : List (LaneView S L)) → All IsFresh lanes → All (λ (lane : LaneCut). lane ≡ fresh_cut) (cuts_of lanes)

@@ -1,9 +1,10 @@
 -- Why a run stops, by its files and its disk.
 use native.Mathlib.Omega.{arith}
-use Rattle.std.proofs.Common.{◌≡◌, ◌≢◌, ◌<◌, ◌+◌, ◌==◌, ℕ, Bool, true, false, inr, List, [], ◌∷◌, ◌++◌, Option, Some, None, Ok, Err, refl, sym, ap, ◌∙◌, subst, suc, zero, drop, length}
+use Rattle.std.proofs.Common.{◌≡◌, ◌≢◌, ◌<◌, ◌+◌, ℕ, inr, List, [], ◌∷◌, ◌++◌, Option, Some, None, Ok, Err, refl, sym, ap, ◌∙◌, subst, suc, zero, drop, length}
 use Rattle.std.specs.Prelude.{All, IfErr, IfSome, OnOk, cond, is_none, slice_get, Result}
 use Rattle.std.proofs.lemmas.List.Elements.{All-head, All-tail}
 use Rattle.std.proofs.lemmas.Option.{same_Some, none-some}
+use Rattle.eql_values.specs.declared.cut.Counts.{Counts}
 use Rattle.eql_values.specs.declared.cut.LaneCut.{LaneCut}
 use Rattle.eql_outside.specs.Moments.{History}
 use Rattle.eql_query.specs.QueryTree.{query_tree}
@@ -15,9 +16,10 @@ use Rattle.eql_laws.specs.Counting.{greatest_lines}
 use Rattle.eql_laws.specs.Places.{ReadTo}
 use Rattle.eql_values.specs.Lines.{lines_of}
 use Rattle.eql_cut.specs.declared.cut.Cut.{Cut}
-use Rattle.eql_resume.specs.Beginnings.{Rest}
+use Rattle.eql_resume.specs.Beginnings.{Keeping, Rest, keeping_of, undigested, unplaced, whole as whole_cut}
 use Rattle.eql_resume.specs.Finding.{disk_holding}
 use Rattle.eql_resume.specs.Lifted.{WereLifted}
+use Rattle.eql_runs.proofs.Overs.{same_but}
 use Rattle.eql_runs.specs.Files.{Files, HasTexts, first_missing}
 use Rattle.eql_runs.specs.Runs.{IfFound, IsFindAccepted, Searches, GenerationsEnd, GoesBeyond, IsBeyond, IsNamed, Reaches, ShardLimit, lane_on, many_bytes, many_lines, shard_file, shard_of}
 use Rattle.eql_runs.specs.Searches.{Search, report_lines}
@@ -31,7 +33,7 @@ use Rattle.eql_find.specs.declared.plan.PlannedQuery.{PlannedQuery}
 use Rattle.eql_find.specs.Finding.{IsPlanOf, HasFindCause, names_in}
 use Rattle.eql_find.specs.Errors.{limit_of}
 use Rattle.eql_find.specs.Running.{IsBeyondOn, StartsOver}
-use Rattle.eql_find.specs.Searching.{BeganWith, IsFresh, LaneFaultsFollow, LanesStop, places_in, search_in}
+use Rattle.eql_find.specs.Searching.{BeganBy, BeganWith, IsFresh, LaneFaultsFollow, LanesStop, places_in, search_in}
 use Rattle.eql_find.proofs.FoundLemmas.{Runs, TheRun, report_is}
 use Rattle.eql_find.proofs.TextLemmas.{searches_in}
 
@@ -113,25 +115,34 @@ lifted_at cut shard (r ∷ shards) (k ∷ lanes) (places ∷ lists) h (suc s) ke
     let e : shard + suc s ≡ shard + 1 + s = omega arith in
     (next.0, next.1, ap (slice_get cut.lanes) e ∙ next.2, next.3)
 
-beyond_on : {S L : Type 0} (told : Option (List (List ℕ))) (lanes : List (LaneView S L)) (u : Bool) (format generation : ℕ) (o : Option Cut)
-    → BeganWith told u o lanes → (limit : ShardLimit) (lane : LaneView S L) → slice_get lanes (shard_of limit) ≡ Some lane → (text : List ℕ)
-    → GoesBeyond limit (Some lane.state.cut) text → GoesBeyond limit (lane_on (disk_holding format generation o) (shard_of limit)) text
-beyond_on told lanes u format generation None began limit lane was text h =
-    fresh_limit limit lane.state.cut text (all_at IsFresh lanes (shard_of limit) lane began was).0 h
-beyond_on told lanes false format generation (Some cut) began limit lane was text h =
+beyond_by : {S L : Type 0} (told : Option (List (List ℕ))) (lanes : List (LaneView S L)) (k : Keeping) (cut : Cut)
+    → BeganBy told k cut lanes → (limit : ShardLimit) (lane : LaneView S L) → slice_get lanes (shard_of limit) ≡ Some lane → (text : List ℕ)
+    → GoesBeyond limit (Some lane.state.cut) text → GoesBeyond limit (slice_get cut.lanes (shard_of limit)) text
+beyond_by told lanes whole_cut cut began limit lane was text h =
     subst (λ (c : Option LaneCut). GoesBeyond limit c text)
     (sym (ap (λ (cs : List LaneCut). slice_get cs (shard_of limit)) (sym began.cuts_are) ∙ cut_at lanes (shard_of limit) lane was)) h
-beyond_on told lanes true format generation (Some cut) began limit lane was text h =
+beyond_by told lanes undigested cut began limit lane was text h =
+    let one = same_but began.over (cuts_of lanes) cut.lanes (shard_of limit) lane.state.cut began.cuts_are (cut_at lanes (shard_of limit) lane was) in
+    subst (λ (c : Option LaneCut). GoesBeyond limit c text) (sym one.there)
+    (same_limit limit lane.state.cut one.other text (ap Counts.lines one.is_same.counts) one.is_same.offset h)
+beyond_by told lanes unplaced cut began limit lane was text h =
     let one = lifted_at cut 0 began.shards (cuts_of lanes) (places_in lanes) began.were_lifted (shard_of limit) lane.state.cut (cut_at lanes (shard_of limit) lane was) in
     let e : 0 + shard_of limit ≡ shard_of limit = omega arith in
     subst (λ (c : Option LaneCut). GoesBeyond limit c text) (sym (ap (slice_get cut.lanes) (sym e) ∙ one.2))
     (same_limit limit lane.state.cut one.1 text (ap (λ (c : LaneCut). c.counts.lines) one.3) (ap LaneCut.offset one.3) h)
 
+beyond_on : {S L : Type 0} (told : Option (List (List ℕ))) (lanes : List (LaneView S L)) (format generation : ℕ) (o : Option Cut)
+    → BeganWith told format o lanes → (limit : ShardLimit) (lane : LaneView S L) → slice_get lanes (shard_of limit) ≡ Some lane → (text : List ℕ)
+    → GoesBeyond limit (Some lane.state.cut) text → GoesBeyond limit (lane_on (disk_holding format generation o) (shard_of limit)) text
+beyond_on told lanes format generation None began limit lane was text h =
+    fresh_limit limit lane.state.cut text (all_at IsFresh lanes (shard_of limit) lane began was).0 h
+beyond_on told lanes format generation (Some cut) began limit lane was text h = beyond_by told lanes (keeping_of format) cut began limit lane was text h
+
 -- ---- all causes
 module _ {S L : Type 0} (find : Find) (p : PlannedQuery) (told : Option (List (List ℕ))) (lanes news : List (LaneView S L)) (rest : Rest)
     (disk now : Option History) (files : Option Files) (is : IsPlanOf find files p) (lefts : List (Option (List ℕ)))
     (whole : AreWholeFiles find.shards files lefts)
-    (format generation : ℕ) (o : Option Cut) (began : BeganWith told (format == 1) o lanes)
+    (format generation : ℕ) (o : Option Cut) (began : BeganWith told format o lanes)
     (start : (on : OnDisk) → (find.checkpoint ≢ None → DiskHolds disk on) → start_for find on ≡ disk_holding format generation o)
     (runs : Runs find p told lanes rest disk files) where
   -- of each told run
@@ -151,7 +162,7 @@ module _ {S L : Type 0} (find : Find) (p : PlannedQuery) (told : Option (List (L
         own.text,
         own.there,
         subst (λ (d : OnDisk). GoesBeyond limit (lane_on d (shard_of limit)) own.text) (sym (start on holds))
-            (beyond_on told lanes (format == 1) format generation o began limit own.lane own.was own.text own.beyond),
+            (beyond_on told lanes format generation o began limit own.lane own.was own.text own.beyond),
       )
 
   -- the disk of a run that failed was one of a search

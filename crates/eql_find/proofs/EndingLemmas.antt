@@ -51,10 +51,10 @@ generation_at last f format generation (Some cut) stands at = (subst (λ (x : Fo
 
 -- what was put is a cut
 put_stands : (last : LastCut) (cuts : List Cut) (x : Found) → FindsOneOf last cuts x
-    → (generation : ℕ) × (cut : Cut) × StandsFor (disk_holding 3 generation (Some cut)) x
+    → (generation : ℕ) × (cut : Cut) × StandsFor (disk_holding 4 generation (Some cut)) x
 put_stands last [] x h = absurd h
 put_stands last (cut ∷ cuts) x (inl h) =
-    ((next last).generation, cut, ((next last).area, h.0, h.1, text_alone 3 cut h.0 h.2))
+    ((next last).generation, cut, ((next last).area, h.0, h.1, text_alone 4 cut h.0 h.2))
 put_stands last (cut ∷ cuts) x (inr h) = put_stands (next last) cuts x h
 
 -- after puts there stands what stood at their start, or what was put
@@ -93,7 +93,7 @@ module _ (images : ImagesAreThere) (one : DiskHoldsOne) (find : Find) (begun : B
           (on_begun begun, holds, generation_at then (found_on (seen_areas k.now)) begun.format begun.generation begun.cut holds at)
       by (inr then_put) =
           let put = put_stands last cuts (found_on (seen_areas k.now)) then_put in
-          (disk_holding 3 put.0 (Some put.1), put.2, generation_at then (found_on (seen_areas k.now)) 3 put.0 (Some put.1) put.2 at)
+          (disk_holding 4 put.0 (Some put.1), put.2, generation_at then (found_on (seen_areas k.now)) 4 put.0 (Some put.1) put.2 at)
 
   -- it goes on from the generation of what the disk held at its start
   pub began_by : (last : LastCut) (h j : History) (on : OnDisk) → IsFound find (Some h) begun → KeepsAll h j → StandsAt last j.now

@@ -13,10 +13,10 @@ use Rattle.eql_resume.specs.Beginnings.{Rest, rest_by}
 use Rattle.eql_resume.specs.Finding.{disk_holding}
 use Rattle.eql_runs.specs.CutRefusals.{IsTested}
 use Rattle.eql_runs.specs.Files.{Files}
-use Rattle.eql_runs.specs.RunLaws.{TestedIsAccepted}
+use Rattle.eql_runs.specs.RunLaws.{SearchIsOne, TestedIsAccepted}
 use Rattle.eql_runs.specs.Runs.{Finds, IsFindAccepted, Searches, Trusts}
-use Rattle.eql_runs.specs.Searches.{rest_of, report_lines, report_of, shard_counts_from}
-use Rattle.eql_runs.specs.Starts.{BeginsWith, DiskHolds, IsTrusted, OnDisk, a_cut, bad_head, bad_text, listed_on, not_ours, nothing_kept, start_asked, start_for}
+use Rattle.eql_runs.specs.Searches.{Search, rest_of, report_lines, report_of, shard_counts_from}
+use Rattle.eql_runs.specs.Starts.{BeginsWith, DiskHolds, OnDisk, listed_on, start_asked, start_for}
 use Rattle.eql_find.specs.declared.plan.PlannedQuery.{PlannedQuery}
 use Rattle.eql_find.specs.Finding.{FindsAll, FindsListing, FindsSome, IsReportOf}
 use Rattle.eql_find.specs.Running.{StartsOver}
@@ -24,14 +24,15 @@ use Rattle.eql_find.specs.Searching.{BeganWith, search_in}
 use Rattle.eql_find.specs.Starting.{Begun, IsOwn, on_begun, pipes_of}
 use Rattle.eql_find.proofs.TextLemmas.{begins_asked}
 
--- what passed the tests and is trusted is what a run may begin with
-begins_of : (find : Find) (p : PlannedQuery) (texts : List (List ℕ)) (on : OnDisk) → IsTested (search_in find p) texts on
-    → IsTrusted (search_in find p) texts on → BeginsWith (search_in find p) texts on
-begins_of find p texts nothing_kept tested trusted = tt
-begins_of find p texts (a_cut format generation cut) tested trusted = record { head = tested.head; fits = tested.fits; is_cut = trusted tested.head }
-begins_of find p texts (bad_head area) tested trusted = absurd tested
-begins_of find p texts (bad_text area) tested trusted = absurd tested
-begins_of find p texts (not_ours area) tested trusted = absurd tested
+-- a run that is accepted and trusted begins with what its disk holds
+begins_so : SearchIsOne → (find : Find) (p : PlannedQuery) (fs : Files) (on : OnDisk) (texts : List (List ℕ))
+    → Searches find fs (search_in find p) texts → IsFindAccepted find fs on → Trusts find fs on
+    → BeginsWith (search_in find p) texts (start_for find on)
+begins_so search_one find p fs on texts searches accepted trusts =
+    let finds = (accepted.writes trusts).2 in
+    let same = search_one find fs finds.search (search_in find p) finds.texts texts finds.searches searches in
+    subst (λ (s : Search). BeginsWith s texts (start_for find on)) same.0
+    (subst (λ (ts : List (List ℕ)). BeginsWith finds.search ts (start_for find on)) same.1 finds.begins)
 
 -- with what a run begins, by its words and its disk
 pub start_is : (find : Find) (format generation : ℕ) (o : Option Cut) (on : OnDisk) → IfSome o (λ cut. find.checkpoint ≢ None)
@@ -60,20 +61,21 @@ pub record TheRun {S L : Type 0} (find : Find) (p : PlannedQuery) (told : Option
   pub started : Trusts find fs on → StartsOver told find p lanes rest texts
   pub listed : rest.book.listed ≡ listed_on (start_for find on)
 
-module _ {S L : Type 0} (law : TestedIsAccepted) (find : Find) (p : PlannedQuery) (told : Option (List (List ℕ))) (lanes : List (LaneView S L)) (rest : Rest)
-    (begun : Begun) (own : IsOwn find p begun) (began : BeganWith told (begun.format == 1) begun.cut lanes)
+module _ {S L : Type 0} (law : TestedIsAccepted) (search_one : SearchIsOne) (find : Find) (p : PlannedQuery) (told : Option (List (List ℕ))) (lanes : List (LaneView S L)) (rest : Rest)
+    (begun : Begun) (own : IsOwn find p begun) (began : BeganWith told begun.format begun.cut lanes)
     (rest_is : rest ≡ rest_by (pipes_of p) (begun.format == 1) begun.cut) where
   pub the_run : (fs : Files) (on : OnDisk) (texts : List (List ℕ)) → told ≡ Some texts → Searches find fs (search_in find p) texts
       → (find.checkpoint ≢ None → on_begun begun ≡ on) → IsTested (search_in find p) texts (start_for find on) → TheRun find p told lanes rest fs on
   the_run fs on texts told_is searches same tested =
       let start = start_is find begun.format begun.generation begun.cut on own.asked same in
+      let accepted = law find fs on (search_in find p) texts searches tested in
       let begins : Trusts find fs on → BeginsWith (search_in find p) texts (start_for find on) =
-      λ trusts. begins_of find p texts (start_for find on) tested (trusts (search_in find p) texts searches) in
+      λ trusts. begins_so search_one find p fs on texts searches accepted trusts in
       record {
         texts = texts;
         told_is = told_is;
         searches = searches;
-        accepted = law find fs on (search_in find p) texts searches tested;
+        accepted = accepted;
         begins = begins;
         started = λ trusts. record {
           begun = begun;

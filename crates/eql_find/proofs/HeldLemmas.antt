@@ -10,12 +10,13 @@ use Rattle.eql_runs.specs.Outcomes.{DiskIsSame}
 use Rattle.eql_find.specs.declared.error.FindError.{FindError}
 use Rattle.eql_find.specs.declared.error.FindError.TheVariants as run
 use Rattle.eql_find.specs.Errors.{HeldFollows, HeldIsTold, reason_in, reason_told}
-use Rattle.eql_find.specs.Stops.{IsErrorAt, failed, grown, no_line, short, unmade}
+use Rattle.eql_find.specs.Stops.{IsErrorAt, failed, grown, no_line, other_bytes, short, unmade}
 
 -- ---- what is told
 -- a lane that isn't made tells nothing of the disk
 pub made_reason : (shards : List (List ℕ)) (shard : ℕ) (why : LaneRefused) (h : FindError) → IsErrorAt shards shard why h → reason_in h ≡ None
 made_reason shards shard _ _ (short offset had) = refl
+made_reason shards shard _ _ other_bytes = refl
 made_reason shards shard _ _ (no_line line) = refl
 made_reason shards shard _ _ grown = refl
 made_reason shards shard _ _ (failed name there) = refl

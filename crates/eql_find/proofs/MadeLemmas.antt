@@ -1,6 +1,6 @@
 -- A run whose lanes weren't made, and one for which all were: what that says of the cut.
 use native.Mathlib.Omega.{arith}
-use Rattle.std.proofs.Common.{◌≡◌, ◌≢◌, ◌<◌, ◌==◌, ℕ, List, Option, Some, None, refl, sym, ◌∙◌, subst, length, map}
+use Rattle.std.proofs.Common.{◌≡◌, ◌≢◌, ◌<◌, ℕ, List, Option, Some, None, refl, sym, ◌∙◌, subst, length, map}
 use Rattle.std.specs.Prelude.{IfSome, slice_get}
 use Rattle.std.proofs.lemmas.Bool.{false≢true}
 use Rattle.std.proofs.lemmas.Option.{none-some, slice_get_within}
@@ -14,7 +14,7 @@ use Rattle.eql_lane.specs.declared.make.LaneRefused.TheVariants as refused
 use Rattle.eql_lane.specs.declared.make.LaneStart.{LaneStart}
 use Rattle.eql_lane.specs.declared.make.LaneStart.TheVariants as start
 use Rattle.eql_lane.specs.Passing.{IsCause}
-use Rattle.eql_lane.specs.Starts.{cut_of, wanted_of}
+use Rattle.eql_lane.specs.Starts.{cut_of, known_of, wanted_of}
 use Rattle.eql_cut.specs.declared.cut.Cut.{Cut}
 use Rattle.eql_ckdisk.specs.Found.{found_on}
 use Rattle.eql_runs.specs.CutRefusals.{CutRefusal, IsTested, NoneIsRefusedBefore, ShardRefuses}
@@ -30,7 +30,7 @@ use Rattle.eql_shards.specs.Lanes.{Serves, StopsMakingAt}
 use Rattle.eql_find.specs.Searching.{head_in, search_in}
 use Rattle.eql_find.specs.Starting.{Begun, IsFound, IsOwn, on_begun, pipes_of, stages_of, values_of}
 use Rattle.eql_outside.specs.Plans.{FaultPlan}
-use Rattle.eql_find.proofs.RefusingLemmas.{none_refused, no_element, refusal_at, refused_by_shard, shard_refuses, tested_cut}
+use Rattle.eql_find.proofs.RefusingLemmas.{begins_by, none_refused, no_element, refusal_at, refused_by_shard, shard_refuses, tested_cut}
 use Rattle.eql_find.proofs.TextLemmas.{begins_asked, searches_in, some_at, source_of_text, text_of_source, texts_long}
 
 -- what a disk holds is what the run was found to begin with
@@ -41,8 +41,10 @@ begun_is law find (Some h) begun on is asked holds = law (found_on (seen_areas h
 
 -- a lane that begins afresh is refused for no cause but a failure or want of memory
 pub fresh_or_refused : (shard : ℕ) (text : Option (List ℕ)) (before now : ℕ) (why : LaneRefused) (r : CutRefusal)
-    → IsCause text before now (cut_of start.Fresh).offset (cut_of start.Fresh).closed (wanted_of start.Fresh) why → refusal_at shard why ≡ Some r → ⊥
+    → IsCause text before now (cut_of start.Fresh).offset (cut_of start.Fresh).closed (known_of start.Fresh) (wanted_of start.Fresh) why
+    → refusal_at shard why ≡ Some r → ⊥
 fresh_or_refused shard text before now (refused.Short at had) r cause is = let none = cause.0 in let less = cause.1 in omega (arith, none, less)
+fresh_or_refused shard text before now refused.Differs r cause is = cause.0 refl
 fresh_or_refused shard text before now (refused.NoLine line) r cause is = no_element line cause.0
 fresh_or_refused shard text before now refused.Grown r cause is = false≢true cause.0
 fresh_or_refused shard text before now refused.Failed r cause is = none-some r is
@@ -56,7 +58,7 @@ module _ {S : Type 0} (left lent_as : S → Option (List ℕ)) (faults : S → �
   many = texts_long find.shards fs texts there
 
   -- shards that serve are refused for no cause
-  none_before : (cut : Cut) (shard : ℕ) → LanesBegin (Some cut) (format == 1) (length find.shards) starts
+  none_before : (cut : Cut) (shard : ℕ) → LanesBegin (Some cut) format (length find.shards) starts
       → ((s : ℕ) (x : S) (b : LaneStart) → s < shard → slice_get sources s ≡ Some x → slice_get starts s ≡ Some b → IfSome (left x) (Serves b))
       → NoneIsRefusedBefore format cut shard texts
   none_before cut shard begins serve = none_refused format cut shard texts (λ s text less at.
@@ -68,34 +70,37 @@ module _ {S : Type 0} (left lent_as : S → Option (List ℕ)) (faults : S → �
   -- ---- a lane that wasn't made
   refuses_at : (cut : Cut) (why : LaneRefused) (shard : ℕ) (before now : ℕ) (names names' : List ℕ → ℕ) (r : CutRefusal) (on : OnDisk)
       → find.checkpoint ≢ None → Suits (stages_of p) (values_of p) (pipes_of p) (head_in find p) cut
-      → LanesBegin (Some cut) (format == 1) (length find.shards) starts → a_cut format generation cut ≡ on
+      → LanesBegin (Some cut) format (length find.shards) starts → a_cut format generation cut ≡ on
       → StopsMakingAt left lent_as faults plan why shard sources starts before now names names' → refusal_at shard why ≡ Some r
       → RefusesCut find fs on r
   refuses_at cut why shard before now names names' r on asked suits begins same at refusal =
       let text = text_of_source left sources texts shard at.source lefts at.is in
-      let cause = subst (λ (o : Option (List ℕ)). IsCause o (faults at.source) (faults at.back) (cut_of at.start).offset (cut_of at.start).closed (wanted_of at.start) why) text.2 at.refused_by.cause in
-      let found_so = shard_refuses format cut shard text.0 (format == 1) at.start (faults at.source) (faults at.back) why refl (begins.each shard at.start at.begins) cause in
+      let cause = subst (λ (o : Option (List ℕ)). IsCause o (faults at.source) (faults at.back) (cut_of at.start).offset (cut_of at.start).closed (known_of at.start)
+      (wanted_of at.start) why) text.2 at.refused_by.cause in
+      let found_so = shard_refuses format cut shard text.0 at.start (faults at.source) (faults at.back) why
+      (begins_by format cut shard at.start (begins.each shard at.start at.begins)) cause in
       let refuses = subst (λ (o : Option CutRefusal). IfSome o (ShardRefuses format cut shard text.0)) refusal found_so in
       refused_by_shard spans find p texts bounds asked many cut suits fs format generation shard text.0 r on (searches_in find fs p texts is there) same text.1
       (none_before cut shard begins at.earlier) refuses
 
   pub made_refuses : (o : Option Cut) (why : LaneRefused) (shard : ℕ) (before now : ℕ) (names names' : List ℕ → ℕ) (r : CutRefusal) (on : OnDisk)
       → find.checkpoint ≢ None → IfSome o (Suits (stages_of p) (values_of p) (pipes_of p) (head_in find p))
-      → LanesBegin o (format == 1) (length find.shards) starts
+      → LanesBegin o format (length find.shards) starts
       → on_begun (record { format = format; generation = generation; cut = o }) ≡ on
       → StopsMakingAt left lent_as faults plan why shard sources starts before now names names' → refusal_at shard why ≡ Some r
       → RefusesCut find fs on r
   made_refuses None why shard before now names names' r on asked suits begins same at refusal =
       let fresh : at.start ≡ start.Fresh = begins.each shard at.start at.begins in
       absurd (fresh_or_refused shard (left at.source) (faults at.source) (faults at.back) why r
-      (subst (λ (b : LaneStart). IsCause (left at.source) (faults at.source) (faults at.back) (cut_of b).offset (cut_of b).closed (wanted_of b) why) fresh at.refused_by.cause) refusal)
+      (subst (λ (b : LaneStart). IsCause (left at.source) (faults at.source) (faults at.back) (cut_of b).offset (cut_of b).closed (known_of b) (wanted_of b) why)
+      fresh at.refused_by.cause) refusal)
   made_refuses (Some cut) why shard before now names names' r on asked suits begins same at refusal =
       refuses_at cut why shard before now names names' r on asked suits begins same at refusal
 
   -- ---- all lanes were made
   tested_of : (o : Option Cut) (on : OnDisk) → (find.checkpoint ≢ None → on_begun (record { format = format; generation = generation; cut = o }) ≡ on)
       → IfSome o (λ cut. find.checkpoint ≢ None) → IfSome o (Suits (stages_of p) (values_of p) (pipes_of p) (head_in find p))
-      → LanesBegin o (format == 1) (length find.shards) starts
+      → LanesBegin o format (length find.shards) starts
       → ((s : ℕ) (x : S) (b : LaneStart) → slice_get sources s ≡ Some x → slice_get starts s ≡ Some b → IfSome (left x) (Serves b))
       → IsTested (search_in find p) texts (start_for find on)
   tested_of None on same asked suits begins serve = by find.checkpoint (λ some. same some)
@@ -109,7 +114,7 @@ module _ {S : Type 0} (left lent_as : S → Option (List ℕ)) (faults : S → �
       (none_before cut (length texts) begins (λ s x b less. serve s x b)))
 
   pub made_tested : (o : Option Cut) (on : OnDisk) → IsFound find disk (record { format = format; generation = generation; cut = o })
-      → IsOwn find p (record { format = format; generation = generation; cut = o }) → LanesBegin o (format == 1) (length find.shards) starts
+      → IsOwn find p (record { format = format; generation = generation; cut = o }) → LanesBegin o format (length find.shards) starts
       → ((s : ℕ) (x : S) (b : LaneStart) → slice_get sources s ≡ Some x → slice_get starts s ≡ Some b → IfSome (left x) (Serves b))
       → (find.checkpoint ≢ None → DiskHolds disk on) → IsTested (search_in find p) texts (start_for find on)
   made_tested o on found_so own begins serve holds =

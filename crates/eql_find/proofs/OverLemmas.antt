@@ -1,6 +1,6 @@
 -- A run over the sources of its shards, as it was found to begin.
 use native.Mathlib.Omega.{arith}
-use Rattle.std.proofs.Common.{◌≡◌, ◌≢◌, ◌≤◌, ◌==◌, inl, inr, ℕ, List, Option, Some, None, refl, sym, ap, ◌∙◌, subst, length, map}
+use Rattle.std.proofs.Common.{◌≡◌, ◌≢◌, ◌≤◌, inl, inr, ℕ, List, Option, Some, None, refl, sym, ap, ◌∙◌, subst, length, map}
 use Rattle.std.specs.Prelude.{IfSome}
 use Rattle.std.proofs.lemmas.Option.{none-some}
 use Rattle.eql_values.specs.Accepted.{Reads}
@@ -16,7 +16,7 @@ use Rattle.eql_lane.specs.declared.make.LaneRefused.{LaneRefused}
 use Rattle.eql_lane.specs.declared.make.LaneRefused.TheVariants as refused
 use Rattle.eql_lane.specs.declared.make.LaneStart.{LaneStart}
 use Rattle.eql_lane.specs.Passing.{IsCause}
-use Rattle.eql_lane.specs.Starts.{cut_of, wanted_of}
+use Rattle.eql_lane.specs.Starts.{cut_of, known_of, wanted_of}
 use Rattle.eql_lane.specs.Views.{LaneView}
 use Rattle.eql_cut.specs.declared.cut.Cut.{Cut}
 use Rattle.eql_cut.specs.declared.cut.CutHead.{CutHead}
@@ -24,7 +24,7 @@ use Rattle.eql_conductor.specs.declared.plan.Keep.{Keep}
 use Rattle.eql_runs.specs.CutRefusals.{CutRefusal}
 use Rattle.eql_runs.specs.CutRefusals as cut
 use Rattle.eql_runs.specs.Files.{Files}
-use Rattle.eql_runs.specs.RunLaws.{DiskHoldsOne, FitsAtAnySpan, TestedIsAccepted}
+use Rattle.eql_runs.specs.RunLaws.{DiskHoldsOne, FitsAtAnySpan, SearchIsOne, TestedIsAccepted}
 use Rattle.eql_runs.specs.Runs.{IfFound, RefusesCut}
 use Rattle.eql_runs.specs.Starts.{DiskHolds, OnDisk, start_for}
 use Rattle.eql_shards.specs.Shards.{AreWholeFiles}
@@ -38,7 +38,7 @@ use Rattle.eql_find.specs.Running.{BeginsRun, KeepsIfAsked}
 use Rattle.eql_find.specs.Searching.{BeganWith, head_in}
 use Rattle.eql_find.specs.Starting.{BeginsOnDisk, pipes_of, stages_of, values_of}
 use Rattle.eql_search.specs.Searches.{AreTextsOf}
-use Rattle.eql_find.specs.Stops.{IsErrorAt, failed, grown, no_line, short, unmade}
+use Rattle.eql_find.specs.Stops.{IsErrorAt, failed, grown, no_line, other_bytes, short, unmade}
 use Rattle.eql_find.proofs.BeginningLemmas.{are_begun, began_with}
 use Rattle.eql_find.proofs.CauseLemmas.{read_cause}
 use Rattle.eql_find.proofs.FoundLemmas.{Runs, start_is, the_run}
@@ -100,12 +100,12 @@ module _ {S L D : Type 0} (left lent_as : S → Option (List ℕ)) (faults : S �
       → StopsMakingAt left lent_as faults plan why shard sources starts before now names names' → refusal_at shard why ≡ Some r → find.checkpoint ≢ None
   asked_by why shard before now names names' r at refusal = by begins.begun.cut begins.own.asked begins.lanes
     where
-      by : (o : Option Cut) → IfSome o (λ cut. find.checkpoint ≢ None) → LanesBegin o (begins.begun.format == 1) (length find.shards) starts
+      by : (o : Option Cut) → IfSome o (λ cut. find.checkpoint ≢ None) → LanesBegin o begins.begun.format (length find.shards) starts
           → find.checkpoint ≢ None
       by None asked lanes =
           absurd (fresh_or_refused shard (left at.source) (faults at.source) (faults at.back) why r
-          (subst (λ (b : LaneStart). IsCause (left at.source) (faults at.source) (faults at.back) (cut_of b).offset (cut_of b).closed (wanted_of b) why)
-          (lanes.each shard at.start at.begins) at.refused_by.cause) refusal)
+          (subst (λ (b : LaneStart). IsCause (left at.source) (faults at.source) (faults at.back) (cut_of b).offset (cut_of b).closed (known_of b)
+          (wanted_of b) why) (lanes.each shard at.start at.begins) at.refused_by.cause) refusal)
       by (Some cut) asked lanes = asked
 
   module _ (spans : FitsAtAnySpan) (one : DiskHoldsOne) where
@@ -136,6 +136,8 @@ module _ {S L D : Type 0} (left lent_as : S → Option (List ℕ)) (faults : S �
         → IsErrorAt find.shards shard why h → HasFindCause find files disk then err err' h
     made_cause _ shard _ before now names names' then err err' stopped (short offset had) =
         cut_cause (refused.Short offset had) shard before now names names' (cut.short shard offset had) stopped refl
+    made_cause _ shard _ before now names names' then err err' stopped other_bytes =
+        cut_cause refused.Differs shard before now names names' (cut.other_bytes shard) stopped refl
     made_cause _ shard _ before now names names' then err err' stopped (no_line line) =
         cut_cause (refused.NoLine line) shard before now names names' (cut.no_line shard line) stopped refl
     made_cause _ shard _ before now names names' then err err' stopped grown =
@@ -149,9 +151,9 @@ module _ {S L D : Type 0} (left lent_as : S → Option (List ℕ)) (faults : S �
     pub lane_count : length lanes ≡ length find.shards
     lane_count = over_long left lent_as faults plan read_of (line_of (planned_query p.plan)) find.slack 0 sources starts lanes over ∙ source_count
 
-    pub began : BeganWith told (begins.begun.format == 1) begins.begun.cut lanes
+    pub began : BeganWith told begins.begun.format begins.begun.cut lanes
     began =
-        began_with left lent_as faults plan read_of (line_of (planned_query p.plan)) find.slack told (begins.begun.format == 1) begins.begun.cut (length find.shards)
+        began_with left lent_as faults plan read_of (line_of (planned_query p.plan)) find.slack told begins.begun.format begins.begun.cut (length find.shards)
         sources starts lanes over begins.lanes (cut_count find p (length lanes) begins.begun.cut lane_count begins.own.suits) lefts_told
 
     texts_by : (o : Option (List (List ℕ))) → IfSome o (λ ts. map left sources ≡ map (λ (t : List ℕ). Some t) ts)
@@ -184,14 +186,14 @@ module _ {S L D : Type 0} (left lent_as : S → Option (List ℕ)) (faults : S �
         (λ asked. begun_is one find disk begins.begun on begins.is_found asked (holds asked))
 
     -- it is one that nothing refuses
-    pub over_runs : FitsAtAnySpan → DiskHoldsOne → TestedIsAccepted → Runs find p told lanes rest disk files
-    over_runs spans one law = by files is whole told_is
+    pub over_runs : FitsAtAnySpan → DiskHoldsOne → TestedIsAccepted → SearchIsOne → Runs find p told lanes rest disk files
+    over_runs spans one law search_one = by files is whole told_is
       where
         by : (o : Option Files) → IsPlanOf find o p → AreWholeFiles find.shards o (map left sources) → told ≡ texts_told o find.shards
             → Runs find p told lanes rest disk o
         by None plan_of all e = tt
         by (Some fs) plan_of all e = λ on holds.
-            the_run law find p told lanes rest begins.begun begins.own began begins.rest_is fs on all.texts
+            the_run law search_one find p told lanes rest begins.begun begins.own began begins.rest_is fs on all.texts
             (e ∙ told_all find.shards fs all.texts all.there) (searches_in find fs p all.texts plan_of all.there)
             (λ asked. begun_is one find disk begins.begun on begins.is_found asked (holds asked))
             (made_tested left lent_as faults plan spans one find p bounds fs plan_of disk begins.begun.format begins.begun.generation all.texts all.there

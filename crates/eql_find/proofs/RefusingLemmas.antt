@@ -1,7 +1,7 @@
 -- A cut that is refused where a run begins, and one that isn't, in the words of runs.
 use native.Mathlib.Omega.{arith}
 use Rattle.std.proofs.Common.{◌≡◌, ◌≢◌, ◌<◌, ◌*◌, ◌==◌, ℕ, Bool, true, false, List, [], Option, Some, None, refl, sym, ap, ◌∙◌, subst, length, take, drop}
-use Rattle.std.specs.Prelude.{All, Contains, IfSome, slice_get, pos}
+use Rattle.std.specs.Prelude.{Contains, IfSome, if◌then◌else◌, slice_get, pos, ◌↔◌}
 use Rattle.std.proofs.lemmas.Bool.{eqb-true, false≢true}
 use Rattle.std.proofs.lemmas.List.Elements.{All-contains, at_from_Contains}
 use Rattle.std.proofs.lemmas.Option.{same_Some}
@@ -16,20 +16,21 @@ use Rattle.eql_lane.specs.declared.make.LaneRefused.{LaneRefused}
 use Rattle.eql_lane.specs.declared.make.LaneRefused.TheVariants as refused
 use Rattle.eql_lane.specs.declared.make.LaneStart.{LaneStart}
 use Rattle.eql_lane.specs.Noting.{IsWholeLine}
-use Rattle.eql_lane.specs.Passing.{IsCause}
-use Rattle.eql_lane.specs.Starts.{cut_of, wanted_of}
+use Rattle.eql_lane.specs.Passing.{Agrees, IsCause}
+use Rattle.eql_lane.specs.Starts.{cut_of, known_of, wanted_of}
 use Rattle.eql_cut.specs.declared.cut.Cut.{Cut}
 use Rattle.eql_cut.specs.declared.cut.CutHead.{CutHead}
 use Rattle.eql_cut.specs.Domain.{kept_by}
 use Rattle.eql_cut.specs.Fitting.{run_of as bare_run}
+use Rattle.eql_cut.specs.Placing.{NamesLine}
 use Rattle.eql_ckdisk.specs.Found.{found_on}
-use Rattle.eql_runs.specs.CutRefusals.{CutRefusal, CutRefuses, FoundRefuses, IsTestedCut, NoneIsRefusedBefore, ShardRefuses, by_found, by_shard, grown, has_no_line, head_damaged, head_differs, is_foreign, is_grown, is_short, is_unfit, no_line, short, text_damaged}
+use Rattle.eql_runs.specs.CutRefusals.{CutRefusal, CutRefuses, FoundRefuses, HasItsBytes, IsTestedCut, NoneIsRefusedBefore, ShardRefuses, by_found, by_shard, grown, has_no_line, has_other_bytes, head_damaged, head_differs, is_foreign, is_grown, is_short, is_unfit, no_line, other_bytes, short, text_damaged}
 use Rattle.eql_runs.specs.Files.{Files}
 use Rattle.eql_runs.specs.RunLaws.{DiskHoldsOne, FitsAtAnySpan}
 use Rattle.eql_runs.specs.Runs.{RefusesCut, Searches}
 use Rattle.eql_runs.specs.Searches.{run_of}
-use Rattle.eql_runs.specs.Starts.{DiskHolds, IsHeadOf, OnDisk, StandsFor, a_cut, start_for}
-use Rattle.eql_resume.specs.Beginnings.{LaneBegins}
+use Rattle.eql_runs.specs.Starts.{DiskHolds, IsHeadOf, OnDisk, StandsFor, a_cut, keeps_digests, start_for}
+use Rattle.eql_resume.specs.Beginnings.{LaneBegins, keeping_of, undigested, unplaced, whole}
 use Rattle.eql_resume.specs.Finding.{IsRefusedBy, Suits}
 use Rattle.eql_find.specs.declared.plan.PlannedQuery.{PlannedQuery}
 use Rattle.eql_shards.specs.Lanes.{Serves}
@@ -89,108 +90,121 @@ no_element x h = let less = (at_from_Contains [] x h).1 in omega (arith, less)
 first_format : (format : ℕ) → format ≡ 1 → (format == 1) ≡ false → ⊥
 first_format format is other = false≢true (sym other ∙ ap (λ (n : ℕ). n == 1) is ∙ nat_eq_equiv.refl 1)
 
+-- the first keeps no digests
+pub first_keeps_none : (format : ℕ) → format ≡ 1 → keeps_digests format ≡ true → ⊥
+first_keeps_none format is keeps = false≢true (ap keeps_digests (sym is) ∙ keeps)
+
+-- how the lane of a shard begins with what a cut in this format keeps of it: it tests the digest where the format keeps one, and it
+-- wants the lines that the cut names where the format keeps no places
+pub record BeginsBy (format : ℕ) (cut : Cut) (shard : ℕ) (b : LaneStart) : Type 0 where
+  pub there : slice_get cut.lanes shard ≡ Some (cut_of b)
+  pub agree : (text : List ℕ) → HasItsBytes format (cut_of b) text → Agrees (known_of b) (cut_of b).offset text
+  pub has : (text : List ℕ) → Agrees (known_of b) (cut_of b).offset text → HasItsBytes format (cut_of b) text
+  pub first : (line : ℕ) → Contains (wanted_of b) line → format ≡ 1
+  pub named : format ≡ 1 → (line : ℕ) → Contains (wanted_of b) line ↔ NamesLine cut shard line
+
+begins_as : (format : ℕ) (cut : Cut) (shard : ℕ) (b : LaneStart) (digested first : Bool) → keeps_digests format ≡ digested → (format == 1) ≡ first
+    → LaneBegins (Some cut) (if digested then whole else if first then unplaced else undigested) shard b → BeginsBy format cut shard b
+begins_as format cut shard b true first keeps is begins =
+    subst (λ (x : LaneStart). BeginsBy format cut shard x) (sym begins.2)
+    (record {
+      there = begins.1;
+      agree = λ text own. own keeps;
+      has = λ text own kept. own;
+      first = λ line none. absurd (no_element line none);
+      named = λ one. absurd (first_keeps_none format one keeps);
+    })
+begins_as format cut shard b false true keeps is begins =
+    subst (λ (x : LaneStart). BeginsBy format cut shard x) (sym begins.3)
+    (record {
+      there = begins.1;
+      agree = λ text own. tt;
+      has = λ text own kept. absurd (false≢true (sym keeps ∙ kept));
+      first = λ line wanted. eqb-true format 1 is;
+      named = λ one line. begins.4 line;
+    })
+begins_as format cut shard b false false keeps is begins =
+    subst (λ (x : LaneStart). BeginsBy format cut shard x) (sym begins.2)
+    (record {
+      there = begins.1;
+      agree = λ text own. tt;
+      has = λ text own kept. absurd (false≢true (sym keeps ∙ kept));
+      first = λ line none. absurd (no_element line none);
+      named = λ one. absurd (first_format format one is);
+    })
+
+pub begins_by : (format : ℕ) (cut : Cut) (shard : ℕ) (b : LaneStart) → LaneBegins (Some cut) (keeping_of format) shard b → BeginsBy format cut shard b
+begins_by format cut shard b begins = begins_as format cut shard b (keeps_digests format) (format == 1) refl refl begins
+
 -- a shard that serves its lane is refused for no cause
-serves_or_refused : (format : ℕ) (cut : Cut) (shard : ℕ) (text : List ℕ) (u : Bool) (b : LaneStart) (r : CutRefusal) → (format == 1) ≡ u
-    → LaneBegins (Some cut) u shard b → Serves b text → ShardRefuses format cut shard text r → ⊥
-serves_or_refused format cut shard text false b _ is begins serves (is_short lane there less) =
-    let same : begins.0 ≡ lane = same_Some begins.0 lane (sym begins.1 ∙ there) in
-    let at : (cut_of b).offset ≡ lane.offset = ap (λ (x : LaneStart). (cut_of x).offset) begins.2 ∙ ap LaneCut.offset same in
-    let enough = serves.there in
-    omega (arith, at, enough, less)
-serves_or_refused format cut shard text false b _ is begins serves (has_no_line lane there first enough line lost) = first_format format first is
-serves_or_refused format cut shard text false b _ is begins serves (is_grown lane there closed more all) =
-    let same : begins.0 ≡ lane = same_Some begins.0 lane (sym begins.1 ∙ there) in
-    let at : (cut_of b).offset ≡ lane.offset = ap (λ (x : LaneStart). (cut_of x).offset) begins.2 ∙ ap LaneCut.offset same in
-    let shut : (cut_of b).closed ≡ true = ap (λ (x : LaneStart). (cut_of x).closed) begins.2 ∙ ap LaneCut.closed same ∙ closed in
-    let ended = serves.ended shut in
-    omega (arith, at, ended, more)
-serves_or_refused format cut shard text true b _ is begins serves (is_short lane there less) =
-    let same : begins.0 ≡ lane = same_Some begins.0 lane (sym begins.1 ∙ there) in
-    let at : (cut_of b).offset ≡ lane.offset = ap (λ (x : LaneStart). (cut_of x).offset) begins.3 ∙ ap LaneCut.offset same in
-    let enough = serves.there in
-    omega (arith, at, enough, less)
-serves_or_refused format cut shard text true b _ is begins serves (has_no_line lane there first enough line lost) =
-    let same : begins.0 ≡ lane = same_Some begins.0 lane (sym begins.1 ∙ there) in
-    let at : (cut_of b).offset ≡ lane.offset = ap (λ (x : LaneStart). (cut_of x).offset) begins.3 ∙ ap LaneCut.offset same in
-    let wanted : wanted_of b ≡ begins.2 = ap wanted_of begins.3 in
-    let all = subst (λ (w : List ℕ). All (IsWholeLine (take (cut_of b).offset text) (drop (cut_of b).offset text)) w) wanted serves.whole in
-    let whole = All-contains (IsWholeLine (take (cut_of b).offset text) (drop (cut_of b).offset text)) begins.2 line all ((begins.4 line).1 lost.named) in
-    lost.lost (subst (λ (n : ℕ). IsWholeLine (take n text) (drop n text) line) at whole)
-serves_or_refused format cut shard text true b _ is begins serves (is_grown lane there closed more all) =
-    let same : begins.0 ≡ lane = same_Some begins.0 lane (sym begins.1 ∙ there) in
-    let at : (cut_of b).offset ≡ lane.offset = ap (λ (x : LaneStart). (cut_of x).offset) begins.3 ∙ ap LaneCut.offset same in
-    let shut : (cut_of b).closed ≡ true = ap (λ (x : LaneStart). (cut_of x).closed) begins.3 ∙ ap LaneCut.closed same ∙ closed in
-    let ended = serves.ended shut in
-    omega (arith, at, ended, more)
+module _ (format : ℕ) (cut : Cut) (shard : ℕ) (text : List ℕ) (b : LaneStart) (begins : BeginsBy format cut shard b) (serves : Serves b text) where
+  kept_so : (lane : LaneCut) → slice_get cut.lanes shard ≡ Some lane → cut_of b ≡ lane
+  kept_so lane there = same_Some (cut_of b) lane (sym begins.there ∙ there)
+
+  serves_or_refused : (r : CutRefusal) → ShardRefuses format cut shard text r → ⊥
+  serves_or_refused _ (is_short lane there less) =
+      let at : (cut_of b).offset ≡ lane.offset = ap LaneCut.offset (kept_so lane there) in
+      let enough = serves.there in
+      omega (arith, at, enough, less)
+  serves_or_refused _ (has_other_bytes lane there enough other) =
+      other (subst (λ (x : LaneCut). HasItsBytes format x text) (kept_so lane there) (begins.has text serves.agrees))
+  serves_or_refused _ (has_no_line lane there first enough line lost) =
+      let at : (cut_of b).offset ≡ lane.offset = ap LaneCut.offset (kept_so lane there) in
+      let standing = All-contains (IsWholeLine (take (cut_of b).offset text) (drop (cut_of b).offset text)) (wanted_of b) line serves.whole
+      ((begins.named first line).1 lost.named) in
+      lost.lost (subst (λ (n : ℕ). IsWholeLine (take n text) (drop n text) line) at standing)
+  serves_or_refused _ (is_grown lane there closed more bytes all) =
+      let at : (cut_of b).offset ≡ lane.offset = ap LaneCut.offset (kept_so lane there) in
+      let ended = serves.ended (ap LaneCut.closed (kept_so lane there) ∙ closed) in
+      omega (arith, at, ended, more)
 
 -- so none of the first shards is refused where each serves
 pub none_refused : (format : ℕ) (cut : Cut) (shard : ℕ) (texts : List (List ℕ))
     → ((s : ℕ) (text : List ℕ) → s < shard → slice_get texts s ≡ Some text
-    → (b : LaneStart) × LaneBegins (Some cut) (format == 1) s b × Serves b text)
+    → (b : LaneStart) × LaneBegins (Some cut) (keeping_of format) s b × Serves b text)
     → NoneIsRefusedBefore format cut shard texts
 none_refused format cut shard texts each = λ s text r less there refused.
     let one = each s text less there in
-    serves_or_refused format cut s text (format == 1) one.0 r refl one.1 one.2 refused
+    serves_or_refused format cut s text one.0 (begins_by format cut s one.0 one.1) one.2 r refused
 
 -- ---- a cut that is refused by a shard
 -- the refusal of a lane, in words of runs
 abbrev pub refusal_at : (shard : ℕ) → LaneRefused → Option CutRefusal
 refusal_at shard (refused.Short offset had) = Some (short shard offset had)
+refusal_at shard refused.Differs = Some (other_bytes shard)
 refusal_at shard (refused.NoLine line) = Some (no_line shard line)
 refusal_at shard refused.Grown = Some (grown shard)
 refusal_at shard refused.Failed = None
 refusal_at shard refused.Memory = None
 
 -- a lane that isn't made of a text tells why its shard is refused
-pub shard_refuses : (format : ℕ) (cut : Cut) (shard : ℕ) (text : List ℕ) (u : Bool) (b : LaneStart) (before now : ℕ) (why : LaneRefused)
-    → (format == 1) ≡ u → LaneBegins (Some cut) u shard b
-    → IsCause (Some text) before now (cut_of b).offset (cut_of b).closed (wanted_of b) why
+pub shard_refuses : (format : ℕ) (cut : Cut) (shard : ℕ) (text : List ℕ) (b : LaneStart) (before now : ℕ) (why : LaneRefused)
+    → BeginsBy format cut shard b
+    → IsCause (Some text) before now (cut_of b).offset (cut_of b).closed (known_of b) (wanted_of b) why
     → IfSome (refusal_at shard why) (ShardRefuses format cut shard text)
-shard_refuses format cut shard text false b before now (refused.Short at had) is begins cause =
-    let own : (cut_of b).offset ≡ begins.0.offset = ap (λ (x : LaneStart). (cut_of x).offset) begins.2 in
-    let offset : begins.0.offset ≡ at = sym own ∙ sym cause.0 in
+shard_refuses format cut shard text b before now (refused.Short at had) begins cause =
     let less = cause.1 in
     let long = cause.2 in
-    subst (λ (n : ℕ). ShardRefuses format cut shard text (short shard n had)) offset
-    (subst (λ (n : ℕ). ShardRefuses format cut shard text (short shard begins.0.offset n)) long
-    (is_short begins.0 begins.1 (omega (arith, less, long, offset))))
-shard_refuses format cut shard text false b before now (refused.NoLine line) is begins cause =
-    absurd (no_element line (subst (λ (w : List ℕ). Contains w line) (ap wanted_of begins.2) cause.0))
-shard_refuses format cut shard text false b before now refused.Grown is begins cause =
-    let own : (cut_of b).offset ≡ begins.0.offset = ap (λ (x : LaneStart). (cut_of x).offset) begins.2 in
-    let shut : begins.0.closed ≡ true = sym (ap (λ (x : LaneStart). (cut_of x).closed) begins.2) ∙ cause.0 in
-    let more = cause.1.further in
-    is_grown begins.0 begins.1 shut (omega (arith, own, more)) (λ first. absurd (first_format format first is))
-shard_refuses format cut shard text true b before now (refused.Short at had) is begins cause =
-    let own : (cut_of b).offset ≡ begins.0.offset = ap (λ (x : LaneStart). (cut_of x).offset) begins.3 in
-    let offset : begins.0.offset ≡ at = sym own ∙ sym cause.0 in
-    let less = cause.1 in
-    let long = cause.2 in
-    subst (λ (n : ℕ). ShardRefuses format cut shard text (short shard n had)) offset
-    (subst (λ (n : ℕ). ShardRefuses format cut shard text (short shard begins.0.offset n)) long
-    (is_short begins.0 begins.1 (omega (arith, less, long, offset))))
-shard_refuses format cut shard text true b before now (refused.NoLine line) is begins cause =
-    let own : (cut_of b).offset ≡ begins.0.offset = ap (λ (x : LaneStart). (cut_of x).offset) begins.3 in
-    let wanted : wanted_of b ≡ begins.2 = ap wanted_of begins.3 in
-    let enough = cause.1.there in
+    let offset = cause.0 in
+    subst (λ (n : ℕ). ShardRefuses format cut shard text (short shard n had)) (sym offset)
+    (subst (λ (n : ℕ). ShardRefuses format cut shard text (short shard (cut_of b).offset n)) long
+    (is_short (cut_of b) begins.there (omega (arith, less, long, offset))))
+shard_refuses format cut shard text b before now refused.Differs begins cause =
+    has_other_bytes (cut_of b) begins.there cause.1.there (λ own. cause.1.differs (begins.agree text own))
+shard_refuses format cut shard text b before now (refused.NoLine line) begins cause =
+    let first = begins.first line cause.0 in
     let missing = cause.1.missing in
-    has_no_line begins.0 begins.1 (eqb-true format 1 is) (omega (arith, own, enough)) line (record {
-      named = (begins.4 line).0 (subst (λ (w : List ℕ). Contains w line) wanted cause.0);
-      lost = λ whole. missing.missing (subst (λ (n : ℕ). IsWholeLine (take n text) (drop n text) line) (sym own) whole);
-      least = λ other named less. subst (λ (n : ℕ). IsWholeLine (take n text) (drop n text) other) own
-          (missing.least other (subst (λ (w : List ℕ). Contains w other) (sym wanted) ((begins.4 other).1 named)) less);
+    has_no_line (cut_of b) begins.there first cause.1.there line (record {
+      named = (begins.named first line).0 cause.0;
+      lost = missing.missing;
+      least = λ other named less. missing.least other ((begins.named first other).1 named) less;
     })
-shard_refuses format cut shard text true b before now refused.Grown is begins cause =
-    let own : (cut_of b).offset ≡ begins.0.offset = ap (λ (x : LaneStart). (cut_of x).offset) begins.3 in
-    let shut : begins.0.closed ≡ true = sym (ap (λ (x : LaneStart). (cut_of x).closed) begins.3) ∙ cause.0 in
-    let wanted : wanted_of b ≡ begins.2 = ap wanted_of begins.3 in
-    let more = cause.1.further in
-    is_grown begins.0 begins.1 shut (omega (arith, own, more)) (λ first line named.
-    subst (λ (n : ℕ). IsWholeLine (take n text) (drop n text) line) own
-    (All-contains (IsWholeLine (take (cut_of b).offset text) (drop (cut_of b).offset text)) (wanted_of b) line cause.1.whole
-    (subst (λ (w : List ℕ). Contains w line) (sym wanted) ((begins.4 line).1 named))))
-shard_refuses format cut shard text u b before now refused.Failed is begins cause = tt
-shard_refuses format cut shard text u b before now refused.Memory is begins cause = tt
+shard_refuses format cut shard text b before now refused.Grown begins cause =
+    is_grown (cut_of b) begins.there cause.0 cause.1.further (begins.has text cause.1.agrees) (λ first line named.
+    All-contains (IsWholeLine (take (cut_of b).offset text) (drop (cut_of b).offset text)) (wanted_of b) line cause.1.whole
+    ((begins.named first line).1 named))
+shard_refuses format cut shard text b before now refused.Failed begins cause = tt
+shard_refuses format cut shard text b before now refused.Memory begins cause = tt
 
 -- ---- a run that begins with a cut
 module _ (spans : FitsAtAnySpan) (find : Find) (p : PlannedQuery) (texts : List (List ℕ)) (bounds : FindIsBounded find) (asked : find.checkpoint ≢ None)

@@ -24,18 +24,18 @@ use Rattle.eql_cut.specs.CutValues.{names_ascend}
 use Rattle.eql_cut.specs.Placing.{IsUnplaced, LinesAscend, orders_in, listed_place}
 use Rattle.eql_conductor.specs.declared.plan.Keep.{Keep}
 use Rattle.eql_conductor.specs.Openings.{FitMayBegin}
-use Rattle.eql_resume.specs.Beginnings.{Rest, placed_if, rest_by}
+use Rattle.eql_resume.specs.Beginnings.{Rest, keeping_of, placed_if, rest_by}
 use Rattle.eql_resume.specs.Finding.{Suits, disk_holding}
-use Rattle.eql_runs.specs.Starts.{BeginsWith}
+use Rattle.eql_runs.specs.Starts.{BeginsWith, IsCutOf}
 use Rattle.eql_search.specs.Beginnings.{MayBegin, MayKeepOn, cuts_of, run_by}
 use Rattle.eql_search.specs.Searches.{AreBegun, AreBegunFrom, AreTextsOf, Rules, reads_by, slack_by}
 use Rattle.eql_find.specs.declared.plan.PlannedQuery.{PlannedQuery}
 use Rattle.eql_find.specs.Running.{KeepsIfAsked, StartsOver, every_of, plan_in, rest_over}
 use Rattle.eql_find.specs.Searching.{BeganWith, StartsOn, bare, head_in, places_in, rules_in, search_in}
 use Rattle.eql_find.specs.Starting.{Begun, IsOwn, pipes_of, stages_of, values_of}
-use Rattle.eql_find.proofs.AllowingLemmas.{BeginLaws, ascend_by, bare_cuts, fresh_ascend, may_fresh, may_from}
+use Rattle.eql_find.proofs.AllowingLemmas.{BeginLaws, ascend_by, bare_cuts, fresh_ascend, is_unplaced, may_fresh, may_from, unplaced_is}
 use Rattle.eql_find.proofs.BookLemmas.{fits_fresh}
-use Rattle.eql_find.proofs.TrustingLemmas.{starts_fresh, starts_from}
+use Rattle.eql_find.proofs.TrustingLemmas.{meant_is, starts_fresh, starts_from}
 
 -- a cut of the run, by its own head
 own_suits : (find : Find) (p : PlannedQuery) (cut : Cut) → Suits (stages_of p) (values_of p) (pipes_of p) (head_in find p) cut
@@ -53,36 +53,45 @@ StartsSo find p ts lanes r = StartsOn (search_in find p) ts r.mark (cuts_of lane
 -- ---- with what the search begins
 module _ {S L : Type 0} (laws : BeginLaws) (find : Find) (p : PlannedQuery) (bounds : FindIsBounded find)
     (lanes : List (LaneView S L)) (rest : Rest) (many : length lanes ≡ length find.shards) where
+  -- what is pending, by what the text of a cut keeps
+  rest_kept : (format : ℕ) (cut : Cut) → rest ≡ rest_by (pipes_of p) (format == 1) (Some cut)
+      → rest ≡ rest_by (pipes_of p) (is_unplaced (keeping_of format)) (Some cut)
+  rest_kept format cut is = is ∙ ap (λ (u : Bool). rest_by (pipes_of p) u (Some cut)) (sym (unplaced_is format))
+
   ascend_at : (told : Option (List (List ℕ))) (format : ℕ) (o : Option Cut) → IfSome o (λ cut. find.checkpoint ≢ None)
       → IfSome o (Suits (stages_of p) (values_of p) (pipes_of p) (head_in find p))
-      → IfSome o (λ cut. format ≡ 1 → IsUnplaced (orders_in cut)) → BeganWith told (format == 1) o lanes → LinesAscend (places_in lanes)
+      → IfSome o (λ cut. format ≡ 1 → IsUnplaced (orders_in cut)) → BeganWith told format o lanes → LinesAscend (places_in lanes)
   ascend_at told format None asked suits bare_of began = fresh_ascend lanes began
   ascend_at told format (Some cut) asked suits bare_of began =
       ascend_by laws find p bounds told lanes format cut asked (own_suits find p cut suits) bare_of (ap CutHead.slack suits.head_is)
-      (own_count find p lanes cut suits many) (format == 1) began
+      (own_count find p lanes cut suits many) (keeping_of format) began
 
   may_at : (told : Option (List (List ℕ))) (format : ℕ) (o : Option Cut) → IfSome o (λ cut. find.checkpoint ≢ None)
       → IfSome o (Suits (stages_of p) (values_of p) (pipes_of p) (head_in find p))
-      → IfSome o (λ cut. format ≡ 1 → IsUnplaced (orders_in cut)) → BeganWith told (format == 1) o lanes → rest ≡ rest_by (pipes_of p) (format == 1) o
+      → IfSome o (λ cut. format ≡ 1 → IsUnplaced (orders_in cut)) → BeganWith told format o lanes → rest ≡ rest_by (pipes_of p) (format == 1) o
       → (let r = rest_over lanes rest in MayBegin (rules_in (search_in find p)) (pipes_of p) r.mark (cuts_of lanes) r.holders r.book)
   may_at told format None asked suits bare_of began is = may_fresh find p lanes (format == 1) began rest is
   may_at told format (Some cut) asked suits bare_of began is =
+      let by_keeping = rest_kept format cut is in
       subst (λ (u : Bool). let r = placed_if u (listed_place (places_in lanes)) rest in
-      MayBegin (rules_in (search_in find p)) (pipes_of p) r.mark (cuts_of lanes) r.holders r.book) (sym (ap Rest.unplaced is))
+      MayBegin (rules_in (search_in find p)) (pipes_of p) r.mark (cuts_of lanes) r.holders r.book) (sym (ap Rest.unplaced by_keeping))
       (may_from laws find p bounds told lanes format cut asked (own_suits find p cut suits) bare_of (ap CutHead.slack suits.head_is)
-      (own_count find p lanes cut suits many) (format == 1) (λ e. bare_of (eqb-true format 1 e)) (ap CutHead.shards suits.head_is ∙ sym many) began rest is)
+      (own_count find p lanes cut suits many) (keeping_of format) (λ e. bare_of (eqb-true format 1 (sym (unplaced_is format) ∙ e)))
+      (ap CutHead.shards suits.head_is ∙ sym many) began rest by_keeping)
 
   starts_at : (ts : List (List ℕ)) (format generation : ℕ) (o : Option Cut) → IfSome o (λ cut. find.checkpoint ≢ None)
       → IfSome o (Suits (stages_of p) (values_of p) (pipes_of p) (head_in find p))
-      → IfSome o (λ cut. format ≡ 1 → IsUnplaced (orders_in cut)) → BeganWith (Some ts) (format == 1) o lanes → rest ≡ rest_by (pipes_of p) (format == 1) o
+      → IfSome o (λ cut. format ≡ 1 → IsUnplaced (orders_in cut)) → BeganWith (Some ts) format o lanes → rest ≡ rest_by (pipes_of p) (format == 1) o
       → BeginsWith (search_in find p) ts (disk_holding format generation o) → StartsSo find p ts lanes (rest_over lanes rest)
   starts_at ts format generation None asked suits bare_of began is begins = starts_fresh find p ts lanes (format == 1) rest is
   starts_at ts format generation (Some cut) asked suits bare_of began is begins =
-      subst (λ (u : Bool). StartsSo find p ts lanes (placed_if u (listed_place (places_in lanes)) rest)) (sym (ap Rest.unplaced is))
+      let by_keeping = rest_kept format cut is in
+      subst (λ (u : Bool). StartsSo find p ts lanes (placed_if u (listed_place (places_in lanes)) rest)) (sym (ap Rest.unplaced by_keeping))
       (starts_from laws find p bounds ts lanes format cut asked (own_suits find p cut suits) bare_of (ap CutHead.slack suits.head_is)
-      (own_count find p lanes cut suits many) (format == 1) began begins.is_cut rest is)
+      (own_count find p lanes cut suits many) (keeping_of format) began
+      (subst (λ (c : Cut). IsCutOf (search_in find p) cut.head.slack ts c) (meant_is format ts cut) begins.is_cut) rest by_keeping)
 
-  pub lines_ascend : (told : Option (List (List ℕ))) (begun : Begun) → IsOwn find p begun → BeganWith told (begun.format == 1) begun.cut lanes
+  pub lines_ascend : (told : Option (List (List ℕ))) (begun : Begun) → IsOwn find p begun → BeganWith told begun.format begun.cut lanes
       → LinesAscend (places_in lanes)
   lines_ascend told begun own began = ascend_at told begun.format begun.cut own.asked own.suits own.unplaced began
 
@@ -91,7 +100,7 @@ module _ {S L : Type 0} (laws : BeginLaws) (find : Find) (p : PlannedQuery) (bou
     same_cuts : cuts_of lanes ≡ cuts_of mids
     same_cuts = sym (ap cuts_of taken ∙ bare_cuts lanes)
 
-    pub may_begin : (told : Option (List (List ℕ))) (begun : Begun) → IsOwn find p begun → BeganWith told (begun.format == 1) begun.cut lanes
+    pub may_begin : (told : Option (List (List ℕ))) (begun : Begun) → IsOwn find p begun → BeganWith told begun.format begun.cut lanes
         → rest ≡ rest_by (pipes_of p) (begun.format == 1) begun.cut
         → MayBegin (rules_in (search_in find p)) (pipes_of p) placed.mark (cuts_of mids) placed.holders placed.book
     may_begin told begun own began is =
@@ -105,7 +114,7 @@ module _ {S L : Type 0} (laws : BeginLaws) (find : Find) (p : PlannedQuery) (bou
         subst (λ (r : Rest). StartsSo find p ts mids r) (sym placed_is)
         (subst (λ (cs : List LaneCut). let r = rest_over lanes rest in StartsOn (search_in find p) ts r.mark cs r.holders r.book) same_cuts
         (starts_at ts s.begun.format s.begun.generation s.begun.cut s.own.asked s.own.suits s.own.unplaced
-        (subst (λ (o : Option (List (List ℕ))). BeganWith o (s.begun.format == 1) s.begun.cut lanes) e s.began) s.rest_is s.begins))
+        (subst (λ (o : Option (List (List ℕ))). BeganWith o s.begun.format s.begun.cut lanes) e s.began) s.rest_is s.begins))
 
 -- places change neither the mark nor how many lines were listed
 mark_of : (u : Bool) (place : ℕ → ℕ → ℕ) (rest : Rest) → (placed_if u place rest).mark ≡ rest.mark

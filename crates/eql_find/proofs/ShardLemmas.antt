@@ -27,7 +27,7 @@ use Rattle.eql_shards.specs.Giving.{CameBack, lane_returned}
 use Rattle.eql_shards.specs.Lanes.{AreOver, StopsMaking}
 use Rattle.eql_find.specs.LaneOutcomes.{StaysSource}
 use Rattle.eql_find.specs.Searching.{LaneFaultsFollow}
-use Rattle.eql_find.specs.Stops.{IsErrorAt, short, no_line, grown, failed, unmade}
+use Rattle.eql_find.specs.Stops.{IsErrorAt, short, other_bytes, no_line, grown, failed, unmade}
 use Rattle.eql_find.proofs.FailLemmas.{AreNamed, none_failed_lanes, some_failed_lane}
 use Rattle.eql_shards.proofs.MakingLemmas.{by_failure, not_failed}
 use Rattle.eql_find.proofs.TextLemmas.{as_many, parts_of}
@@ -132,6 +132,7 @@ module _ {S : Type 0} (left lent_as : S → Option (List ℕ)) (faults : S → �
       → StopsMaking left lent_as faults plan why shard sources starts before now names names' → IsErrorAt shards shard why h
       → MadeError plan sources before now names names' h
   made_error _ shard _ stopped (short offset had) = refused_error (refused.Short offset had) shard (cut.Short shard offset had) refl stopped
+  made_error _ shard _ stopped other_bytes = refused_error refused.Differs shard (cut.OtherBytes shard) refl stopped
   made_error _ shard _ stopped (no_line line) = refused_error (refused.NoLine line) shard (cut.NoLine shard line) refl stopped
   made_error _ shard _ stopped grown = refused_error refused.Grown shard (cut.Grown shard) refl stopped
   made_error _ shard _ stopped (failed name there) = failed_error shard name there stopped

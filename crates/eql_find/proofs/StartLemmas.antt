@@ -1,5 +1,5 @@
 -- What a run begins with, by what the disk of its checkpoint holds.
-use Rattle.std.proofs.Common.{◌≡◌, ◌≢◌, ◌==◌, ℕ, Bool, false, List, Option, Some, None, refl, sym, ap, ap₂, ◌∙◌, subst}
+use Rattle.std.proofs.Common.{◌≡◌, ◌≢◌, ◌==◌, ℕ, false, List, Option, Some, None, refl, sym, ap, ◌∙◌, subst}
 use Rattle.std.specs.Prelude.{IfSome, IsTrue}
 use Rattle.eql_values.specs.declared.cut.Pipe.{Pipe}
 use Rattle.eql_outside.specs.Areas.{seen_areas}
@@ -39,12 +39,12 @@ module _ (find : Find) (p : PlannedQuery) where
 
   -- with what the disk holds
   pub begins_on : {D : Type 0} (disk : Option History) (head : CutHead) (keep : Keep D) (stages values : ℕ) (pipes : List Pipe) (format : ℕ)
-      (cut : Option Cut) (unplaced : Bool) (starts : List LaneStart) (rest : Rest) → find.checkpoint ≢ None → head ≡ head_in find p
-      → IsTrue (names_ascend p.mapping) → stages ≡ stages_of p → values ≡ values_of p → pipes ≡ pipes_of p → unplaced ≡ (format == 1)
+      (cut : Option Cut) (starts : List LaneStart) (rest : Rest) → find.checkpoint ≢ None → head ≡ head_in find p
+      → IsTrue (names_ascend p.mapping) → stages ≡ stages_of p → values ≡ values_of p → pipes ≡ pipes_of p
       → IfSome disk (λ h. StandsFor (disk_holding format (last_cut keep.state).generation cut) (found_on (seen_areas h.now)))
       → IfSome cut (Suits stages values pipes head) → IfSome cut (λ x. format ≡ 1 → IsUnplaced (orders_in x))
-      → LanesBegin cut unplaced head.shards starts → rest ≡ rest_by pipes unplaced cut → BeginsOnDisk find p disk head (Some keep) starts rest
-  begins_on disk head keep stages values pipes format cut unplaced starts rest asked is names s v ps u stands suits placed lanes rest_is = record {
+      → LanesBegin cut format head.shards starts → rest ≡ rest_by pipes (format == 1) cut → BeginsOnDisk find p disk head (Some keep) starts rest
+  begins_on disk head keep stages values pipes format cut starts rest asked is names s v ps stands suits placed lanes rest_is = record {
     begun = record { format = format; generation = (last_cut keep.state).generation; cut = cut };
     is_found = λ some. stands;
     own = record {
@@ -55,15 +55,14 @@ module _ (find : Find) (p : PlannedQuery) where
     head_is = is;
     names = names;
     generation_is = refl;
-    lanes = subst (λ (n : ℕ). LanesBegin cut (format == 1) n starts) (ap CutHead.shards is)
-        (subst (λ (b : Bool). LanesBegin cut b head.shards starts) u lanes);
-    rest_is = rest_is ∙ ap₂ (λ (x : List Pipe) (b : Bool). rest_by x b cut) ps u;
+    lanes = subst (λ (n : ℕ). LanesBegin cut format n starts) (ap CutHead.shards is) lanes;
+    rest_is = rest_is ∙ ap (λ (x : List Pipe). rest_by x (format == 1) cut) ps;
   }
 
   -- afresh, whatever a disk holds that isn't asked for
   pub begins_afresh : {D : Type 0} (disk : Option History) (head : CutHead) (pipes : List Pipe) (starts : List LaneStart) (rest : Rest)
       → find.checkpoint ≡ None → head ≡ head_in find p → IsTrue (names_ascend p.mapping) → pipes ≡ pipes_of p
-      → LanesBegin None false head.shards starts → rest ≡ rest_by pipes false None → BeginsOnDisk {D = D} find p disk head None starts rest
+      → LanesBegin None 0 head.shards starts → rest ≡ rest_by pipes false None → BeginsOnDisk {D = D} find p disk head None starts rest
   begins_afresh disk head pipes starts rest none is names ps lanes rest_is = record {
     begun = record { format = 0; generation = 0; cut = None };
     is_found = λ some. absurd (some none);
@@ -71,7 +70,7 @@ module _ (find : Find) (p : PlannedQuery) where
     head_is = is;
     names = names;
     generation_is = tt;
-    lanes = subst (λ (n : ℕ). LanesBegin None false n starts) (ap CutHead.shards is) lanes;
+    lanes = subst (λ (n : ℕ). LanesBegin None 0 n starts) (ap CutHead.shards is) lanes;
     rest_is = rest_is ∙ ap (λ (x : List Pipe). rest_by x false None) ps;
   }
 

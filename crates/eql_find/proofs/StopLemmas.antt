@@ -10,7 +10,7 @@ use Rattle.eql_conductor.specs.declared.stop.Stop.TheVariants as stop
 use Rattle.eql_inputs.specs.declared.error.InputError.TheVariants as error
 use Rattle.eql_find.specs.declared.error.CutStop.TheVariants as cut
 use Rattle.eql_find.specs.declared.error.FindError.TheVariants as run
-use Rattle.eql_find.specs.Stops.{IsErrorAt, IsErrorOf, MayStop, read, write, disk, memory, limited, generation, short, no_line, grown, failed, unmade}
+use Rattle.eql_find.specs.Stops.{IsErrorAt, IsErrorOf, MayStop, read, write, disk, memory, limited, generation, short, other_bytes, no_line, grown, failed, unmade}
 
 pub error_read : (shards items : List (List ℕ)) (why : Stop) (shard : ℕ) (name : Bor (List ℕ)) → why ≡ stop.Read shard → items ≡ shards
     → MayStop (length shards) why → name.now ≡ get_or items shard name.now → IsErrorOf shards why (run.Files (error.Read name))
@@ -38,6 +38,9 @@ module _ (shards : List (List ℕ)) (why : Stop) where
 module _ (shards items : List (List ℕ)) (shard : ℕ) (why : LaneRefused) where
   pub at_short : (offset had : ℕ) → why ≡ refused.Short offset had → IsErrorAt shards shard why (run.Cut (cut.Short shard offset had))
   at_short offset had is = subst (λ (w : LaneRefused). IsErrorAt shards shard w (run.Cut (cut.Short shard offset had))) (sym is) (short offset had)
+
+  pub at_differs : why ≡ refused.Differs → IsErrorAt shards shard why (run.Cut (cut.OtherBytes shard))
+  at_differs is = subst (λ (w : LaneRefused). IsErrorAt shards shard w (run.Cut (cut.OtherBytes shard))) (sym is) other_bytes
 
   pub at_no_line : (line : ℕ) → why ≡ refused.NoLine line → IsErrorAt shards shard why (run.Cut (cut.NoLine shard line))
   at_no_line line is = subst (λ (w : LaneRefused). IsErrorAt shards shard w (run.Cut (cut.NoLine shard line))) (sym is) (no_line line)

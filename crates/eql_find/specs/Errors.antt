@@ -7,7 +7,7 @@ use Rattle.eql_outside.specs.declared.refused.OutRefused.TheVariants as refused_
 use Rattle.eql_outside.specs.declared.shelf.Shelf as shelves
 use Rattle.eql_lane.specs.declared.ops.ShardLimit.{ShardLimit}
 use Rattle.eql_lane.specs.declared.ops.ShardLimit.TheVariants as limit
-use Rattle.eql_runs.specs.CutRefusals.{CutRefusal, foreign, damaged, differs, unfit, short, no_line, grown}
+use Rattle.eql_runs.specs.CutRefusals.{CutRefusal, foreign, damaged, differs, unfit, short, other_bytes, no_line, grown}
 use Rattle.eql_runs.specs.Runs.{many_lines, many_bytes}
 use Rattle.eql_runs.specs.Runs as runs
 use Rattle.eql_inputs.specs.declared.error.InputError.{InputError}
@@ -43,6 +43,7 @@ cut_refusal_of (cut.Damaged area at) = damaged area at
 cut_refusal_of (cut.Differs d) = differs d
 cut_refusal_of cut.Unfit = unfit
 cut_refusal_of (cut.Short shard offset had) = short shard offset had
+cut_refusal_of (cut.OtherBytes shard) = other_bytes shard
 cut_refusal_of (cut.NoLine shard line) = no_line shard line
 cut_refusal_of (cut.Grown shard) = grown shard
 

@@ -73,7 +73,7 @@ pub record BeginsRun {S L D : Type 0} (left : S → Option (List ℕ)) (read_of 
   pub texts_of : IfSome texts (λ ts. AreTextsOf left ts lanes)
   pub many : length lanes ≡ length find.shards
   pub are_begun : AreBegunFrom read_of (line_of (planned_query p.plan)) (nanos_of find.slack) 0 lanes
-  pub began : BeganWith texts (begun.format == 1) begun.cut lanes
+  pub began : BeganWith texts begun.format begun.cut lanes
   pub rest_is : rest ≡ rest_by (pipes_of p) (begun.format == 1) begun.cut
   pub head_is : head ≡ head_in find p
   pub names : IsTrue (names_ascend p.mapping)
@@ -84,7 +84,7 @@ pub record StartsOver {S L : Type 0} (known_texts : Option (List (List ℕ))) (f
     (texts : List (List ℕ)) : Type 0 where
   pub begun : Begun
   pub own : IsOwn find p begun
-  pub began : BeganWith known_texts (begun.format == 1) begun.cut lanes
+  pub began : BeganWith known_texts begun.format begun.cut lanes
   pub rest_is : rest ≡ rest_by (pipes_of p) (begun.format == 1) begun.cut
   pub begins : BeginsWith (search_in find p) texts (on_begun begun)
 

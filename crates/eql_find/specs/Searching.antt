@@ -1,5 +1,5 @@
 -- A search over the lanes of a run: what it searches for, with what it begins, and why it stops.
-use Rattle.std.specs.Prelude.{◌≡◌, ◌≢◌, ◌≤◌, ◌<◌, ◌^◌, ℕ, Bool, true, false, List, [], All, length, map, slice_get, Option, None, Some, IfSome, Result, Ok, Err}
+use Rattle.std.specs.Prelude.{◌≡◌, ◌≢◌, ◌≤◌, ◌<◌, ◌^◌, ℕ, List, [], All, length, map, slice_get, Option, None, Some, IfSome, Result, Ok, Err}
 use Rattle.eql_values.specs.declared.cut.BookCut.{BookCut}
 use Rattle.eql_values.specs.declared.cut.Counts.{Counts}
 use Rattle.eql_values.specs.declared.cut.LaneCut.{LaneCut}
@@ -23,8 +23,9 @@ use Rattle.eql_conductor.specs.declared.plan.Keep.{Keep}
 use Rattle.eql_conductor.specs.Saving.{PutsCuts}
 use Rattle.eql_runs.specs.Runs.{KeptCounted, ShardLimit, WroteCounted, shard_of}
 use Rattle.eql_runs.specs.Searches.{Search, matches_of, pipes_of, reads_of, report_lines, shard_counts_from, slack_of, stages_of}
-use Rattle.eql_runs.specs.Starts.{IsCutOf}
+use Rattle.eql_runs.specs.Starts.{IsCutOf, lanes_over}
 use Rattle.eql_inputs.specs.declared.error.InputError.TheVariants as error
+use Rattle.eql_resume.specs.Beginnings.{Keeping, keeping_of, whole as whole_cut, undigested, unplaced}
 use Rattle.eql_resume.specs.Lifted.{WereLifted}
 use Rattle.eql_search.specs.Answers.{AreSteadyBut, BecameAt, RoseFaults}
 use Rattle.eql_search.specs.Beginnings.{BeginsOn, cuts_of, start_at}
@@ -89,10 +90,23 @@ pub record BeganFrom {S L : Type 0} (cut : Cut) (lanes : List (LaneView S L)) : 
   pub cuts_are : cuts_of lanes ≡ cut.lanes
   pub no_places : All (λ lane. lane.places ≡ []) lanes
 
-abbrev pub BeganWith : {S L : Type 0} → (texts : Option (List (List ℕ))) → (unplaced : Bool) → Option Cut → List (LaneView S L) → Type 0
-BeganWith texts unplaced None lanes = All IsFresh lanes
-BeganWith texts false (Some cut) lanes = BeganFrom cut lanes
-BeganWith texts true (Some cut) lanes = BeganLifted texts cut lanes
+-- lanes began with what a cut without digests keeps of them, with those of what was read of some texts. Where texts are told these are
+-- the texts
+pub record BeganRetraced {S L : Type 0} (texts : Option (List (List ℕ))) (cut : Cut) (lanes : List (LaneView S L)) : Type 0 where
+  pub over : List (List ℕ)
+  pub cuts_are : cuts_of lanes ≡ lanes_over over cut.lanes
+  pub texts_are : IfSome texts (λ ts. over ≡ ts)
+  pub no_places : All (λ lane. lane.places ≡ []) lanes
+
+-- so lanes began with what the text of a cut in this format keeps of them, or afresh
+abbrev pub BeganBy : {S L : Type 0} → (texts : Option (List (List ℕ))) → Keeping → Cut → List (LaneView S L) → Type 0
+BeganBy texts whole_cut cut lanes = BeganFrom cut lanes
+BeganBy texts undigested cut lanes = BeganRetraced texts cut lanes
+BeganBy texts unplaced cut lanes = BeganLifted texts cut lanes
+
+abbrev pub BeganWith : {S L : Type 0} → (texts : Option (List (List ℕ))) → (format : ℕ) → Option Cut → List (LaneView S L) → Type 0
+BeganWith texts format None lanes = All IsFresh lanes
+BeganWith texts format (Some cut) lanes = BeganBy texts (keeping_of format) cut lanes
 
 -- what lanes, pending sequences and a book that begin so are of these texts: nothing, or a cut of them
 abbrev pub StartsOn : Search → (texts : List (List ℕ)) → Mark → List LaneCut → List Holder → BookCut → Type 0

@@ -74,7 +74,7 @@ pub record BeginsOnDisk {D : Type 0} (find : Find) (p : PlannedQuery) (disk : Op
   pub head_is : head ≡ head_in find p
   pub names : IsTrue (names_ascend p.mapping)
   pub generation_is : IfSome (generation_kept keep) (λ g. g ≡ begun.generation)
-  pub lanes : LanesBegin begun.cut (begun.format == 1) (length find.shards) starts
+  pub lanes : LanesBegin begun.cut begun.format (length find.shards) starts
   pub rest_is : rest ≡ rest_by (pipes_of p) (begun.format == 1) begun.cut
 
 -- ---- the disk

@@ -37,6 +37,7 @@ pub data IsErrorOf (shards : List (List ℕ)) : Stop → FindError → Type 0 wh
 -- the error where the lane of this shard isn't made
 pub data IsErrorAt (shards : List (List ℕ)) (shard : ℕ) : LaneRefused → FindError → Type 0 where
   short : (offset had : ℕ) → IsErrorAt shards shard (refused.Short offset had) (run.Cut (cut.Short shard offset had))
+  other_bytes : IsErrorAt shards shard refused.Differs (run.Cut (cut.OtherBytes shard))
   no_line : (line : ℕ) → IsErrorAt shards shard (refused.NoLine line) (run.Cut (cut.NoLine shard line))
   grown : IsErrorAt shards shard refused.Grown (run.Cut (cut.Grown shard))
   failed : (name : Bor (List ℕ)) → slice_get shards shard ≡ Some name.now → IsErrorAt shards shard refused.Failed (run.Files (error.Read name))

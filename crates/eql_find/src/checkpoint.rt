@@ -136,11 +136,10 @@ fn start_on<'a, D: Disk>(
     match find_start(alloc, &mut disk, &head, stages, values, pipes) {
         Err(refused) => Err((error_of_start(refused), disk)),
         Ok(found) => {
-            let unplaced = found.format == 1;
             match begin(
                 alloc,
                 found.cut,
-                unplaced,
+                found.format,
                 stages,
                 values,
                 head.shards,
@@ -180,7 +179,7 @@ fn start_afresh<'a, D: Disk>(
     let stages = planned.plan.stages();
     let values = planned.plan.keys();
     let pipes = planned.plan.pipes();
-    match begin(alloc, None, false, stages, values, head.shards, pipes) {
+    match begin(alloc, None, 0, stages, values, head.shards, pipes) {
         Err(_) => Err(FindError::Files(InputError::Memory)),
         Ok(beginning) => Ok(Start {
             head,

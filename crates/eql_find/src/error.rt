@@ -35,6 +35,11 @@ pub enum CutStop {
         /// How many bytes the shard has.
         had: u64,
     },
+    /// The bytes of a shard before the offset of the cut aren't those that were read.
+    OtherBytes {
+        /// The shard.
+        shard: u32,
+    },
     /// A line that the cut names isn't among the whole lines of its shard before the offset of the cut.
     NoLine {
         /// The shard.

@@ -33,6 +33,7 @@ pub(crate) fn error_at<'a>(stop: NotMade, shards: &'a Names) -> FindError<'a>
     let shard = stop.shard;
     match stop.why {
         LaneRefused::Short { offset, had } => FindError::Cut(CutStop::Short { shard, offset, had }),
+        LaneRefused::Differs => FindError::Cut(CutStop::OtherBytes { shard }),
         LaneRefused::NoLine { line } => FindError::Cut(CutStop::NoLine { shard, line }),
         LaneRefused::Grown => FindError::Cut(CutStop::Grown { shard }),
         LaneRefused::Failed => FindError::Files(InputError::Read(&shards.items()[shard as usize])),

@@ -68,6 +68,26 @@ const FIVE: Pieces = &[Starts(
     "1000 root attrib, 2000 root attrib, 3000 elkbee bash, 4000 root bash, 5000 root bash",
 )];
 
+/// The example with another user in its first line.
+const OTHER_BEFORE: Pieces = &[Starts(
+    "1000 rood attrib, 2000 root attrib, 3000 elkbee bash, 4000 root bash, 5000 root bash, 6000 elkbee attrib, 7000 root attrib, 8000 elkbee bash, 9000 root cat, 10000 elkbee cat, 11000 root cat",
+)];
+
+/// The example with another process in its last line, which the first run's second cut doesn't count.
+const OTHER_BEHIND: Pieces = &[Starts(
+    "1000 root attrib, 2000 root attrib, 3000 elkbee bash, 4000 root bash, 5000 root bash, 6000 elkbee attrib, 7000 root attrib, 8000 elkbee bash, 9000 root cat, 10000 elkbee cat, 11000 root vi",
+)];
+
+/// Another log, as the one that was begun when the example was rotated.
+const ANOTHER_LOG: Pieces = &[Starts(
+    "12000 root attrib, 13000 root bash, 14000 root cat, 15000 root attrib, 16000 root bash, 17000 root cat, 18000 root attrib, 19000 root bash, 20000 root cat, 21000 root attrib, 22000 root bash, 23000 root cat",
+)];
+
+/// The example with a space in place of each line feed.
+const SPACED: Pieces = &[Spaced(
+    "1000 root attrib, 2000 root attrib, 3000 elkbee bash, 4000 root bash, 5000 root bash, 6000 elkbee attrib, 7000 root attrib, 8000 elkbee bash, 9000 root cat, 10000 elkbee cat, 11000 root cat",
+)];
+
 /// A mapping of the fields alone that the query names.
 const TWO_FIELDS: Pieces = &[Bytes(br#"{"process.name":"keyword","user.name":"keyword"}"#)];
 
@@ -92,6 +112,7 @@ static RESUMED: &[Row] = &[
         "faults of the disk that a run doesn't come to",
         fails: &[(Object::Disk, 40), (Object::Shelf, 5)],
     ),
+    second_run!("other bytes behind those that were read", shard: OTHER_BEHIND),
 ];
 
 /// Runs that the disk of the first run refuses.
@@ -113,6 +134,15 @@ static REFUSED: &[Row] = &[
         "a shard that is cut short",
         "checkpoint: Short shard 0 offset 1015 had 506",
         shard: FIVE,
+    ),
+    not_resumed!("another log", "checkpoint: Differs shard 0", shard: ANOTHER_LOG),
+    not_resumed!("a byte that was read", "checkpoint: Differs shard 0", shard: OTHER_BEFORE),
+    not_resumed!("spaces that were line feeds", "checkpoint: Differs shard 0", shard: SPACED),
+    not_resumed!(
+        "a query that differs before other bytes",
+        "checkpoint: Differs query",
+        query: PIPED,
+        shard: OTHER_BEFORE,
     ),
     not_resumed!(
         "a query that differs before a short shard",
@@ -168,19 +198,72 @@ const TWO_SHARDS: Row = found!(
     words: Words::Find(FIRST),
 );
 
-/// The same after the shard of one line grew by a byte.
-static GROWN: &[Row] = &[Row {
-    shard: &[Starts("1000 root vi"), Bytes(b" ")],
-    listed: &[],
-    status: 7,
-    told: Told::Lines(&["checkpoint: Grown shard 0"]),
-    held: Held::TwoShards,
-    ..TWO_SHARDS
-}];
+/// A further run over two shards that is refused with this line.
+macro_rules! two_not_resumed {
+    ($shows:expr, $line:expr $(, $field:ident: $value:expr)* $(,)?) => {
+        row_like!(
+            TWO_SHARDS, shows: $shows,
+            listed: &[],
+            status: 7,
+            told: Told::Lines(&[$line]),
+            held: Held::TwoShards
+            $(, $field: $value)*
+        )
+    };
+}
+
+/// The shard of one line, and the same once it grew by a byte.
+const ONE_LINE: Pieces = &[Starts("1000 root vi")];
+
+const ONE_LINE_GROWN: Pieces = &[Starts("1000 root vi"), Bytes(b" ")];
+
+/// Runs over two shards that the first run's disk refuses. The first one was read to its end then. Of several shards the first that
+/// is refused is told.
+static TWO_REFUSED: &[Row] = &[
+    two_not_resumed!(
+        "a shard that grew since it was read to its end",
+        "checkpoint: Grown shard 0",
+        shard: ONE_LINE_GROWN,
+    ),
+    two_not_resumed!(
+        "two shards exchanged",
+        "checkpoint: Differs shard 0",
+        shard: ELEVEN,
+        more: &[ONE_LINE],
+    ),
+    two_not_resumed!(
+        "other bytes in the second shard",
+        "checkpoint: Differs shard 1",
+        more: &[OTHER_BEFORE],
+    ),
+    two_not_resumed!(
+        "other bytes in both shards",
+        "checkpoint: Differs shard 0",
+        shard: &[Starts("1000 root vj")],
+        more: &[OTHER_BEFORE],
+    ),
+    two_not_resumed!(
+        "other bytes of a shard before a further one",
+        "checkpoint: Differs shard 0",
+        shard: &[Starts("1000 root vj"), Bytes(b" ")],
+    ),
+    two_not_resumed!(
+        "a short shard before other bytes in the second",
+        "checkpoint: Short shard 0 offset 98 had 0",
+        shard: &[],
+        more: &[OTHER_BEFORE],
+    ),
+    two_not_resumed!(
+        "a shard that grew before other bytes in the second",
+        "checkpoint: Grown shard 0",
+        shard: ONE_LINE_GROWN,
+        more: &[OTHER_BEFORE],
+    ),
+];
 
 #[test]
-fn shard_that_was_read_must_not_grow(rt: HostRuntime) {
-    check(&rt, rt.alloc(), &[GROWN]);
+fn shards_that_were_read_must_stay(rt: HostRuntime) {
+    check(&rt, rt.alloc(), &[TWO_REFUSED]);
 }
 
 /// The first runs that leave what a disk holds.
@@ -475,11 +558,6 @@ static LAST_GENERATION: &[Row] = &[second_run!(
     held: Held::LastGeneration,
 )];
 
-/// The example with a space in place of each line feed.
-const SPACED: Pieces = &[Spaced(
-    "1000 root attrib, 2000 root attrib, 3000 elkbee bash, 4000 root bash, 5000 root bash, 6000 elkbee attrib, 7000 root attrib, 8000 elkbee bash, 9000 root cat, 10000 elkbee cat, 11000 root cat",
-)];
-
 /// Runs on the disk that the first run left in format 1, of which no cut has places.
 static OF_FIRST_FORMAT: &[Row] = &[
     second_run!("a cut without places", held: Held::FirstFormat),
@@ -497,9 +575,15 @@ static OF_FIRST_FORMAT: &[Row] = &[
     ),
 ];
 
-/// A run on the disk that the first run left in format 2.
-static OF_SECOND_FORMAT: &[Row] = &[
+/// Runs on the disks that the first run left in the formats 2 and 3, of which no cut has digests: other bytes aren't noticed.
+static WITHOUT_DIGESTS: &[Row] = &[
     second_run!("a cut with masks of 128 stages", held: Held::SecondFormat),
+    second_run!("a cut with masks of 256 stages", held: Held::ThirdFormat),
+    second_run!(
+        "other bytes under a cut without digests",
+        shard: OTHER_BEFORE,
+        held: Held::ThirdFormat,
+    ),
 ];
 
 #[test]
@@ -507,6 +591,6 @@ fn cuts_of_older_formats_are_read(rt: HostRuntime) {
     check(
         &rt,
         rt.alloc(),
-        &[OF_FIRST_FORMAT, OF_SECOND_FORMAT, LAST_GENERATION],
+        &[OF_FIRST_FORMAT, WITHOUT_DIGESTS, LAST_GENERATION],
     );
 }

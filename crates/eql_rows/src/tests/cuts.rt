@@ -1,19 +1,21 @@
-//! Two cuts of one run in the formats 1 and 2, written by hand, disks that hold them, and disks that hold no cut.
+//! Two cuts of one run in the formats 1 to 3, written by hand, disks that hold them, and disks that hold no cut.
 //!
 //! The run is the first one of `checkpoints`: the reference's example of sequences, a line each round. It keeps a cut after five
 //! lines and after ten. Numbers have their lowest byte first.
 use crate::tests::row::Held;
 use crate::tests::run::Areas;
-use Part::{Bytes, Place};
+use Part::{Bytes, Place, Upper};
 use std::alloc::AllocError;
 
 /// A part of the text of a cut.
 #[derive(Clone, Copy)]
 enum Part {
-    /// Bytes that both formats have.
+    /// Bytes that all of these formats have.
     Bytes(&'static [u8]),
     /// The place of an event. Format 1 has none.
     Place(&'static [u8]),
+    /// The stages above 128, of which there are none. Only format 3 has them.
+    Upper,
 }
 
 /// What the cuts say of their run.
@@ -45,7 +47,9 @@ const AFTER_FIVE: &[Part] = &[
     Bytes(b"\0\xf2\x05\x2a\x01\0\0\0\0\0\0\0\0\0\0\0\0\0\0\0\0\x05\0\0\0"),
     Place(b"\x96\x01\0\0\0\0\0\0"),
     Bytes(b"\x01\0\0\0\0\0\0\0\x01\0\0\0\0\0\0\0\x03\x04\0\0\0\0\0\0\0root"),
-    Bytes(b"\x02\0\0\0\0\0\0\0\0\0\0\0\0\0\0\0\0"),
+    Bytes(b"\x02\0\0\0\0\0\0\0\0\0\0\0\0\0\0\0"),
+    Upper,
+    Bytes(b"\0"),
     // Pending, of root: the lines 2 at 102 and 4 at 306.
     Bytes(b"\x01\0\0\0\0\0\0\0"),
     Bytes(b"\x01\0\0\0\0\0\0\0\x03\x04\0\0\0\0\0\0\0root\x02\0\0\0\x02\0\0\0\0\0\0\0"),
@@ -66,7 +70,9 @@ const AFTER_TEN: &[Part] = &[
     Bytes(b"\0\xe4\x0b\x54\x02\0\0\0\0\0\0\0\0\0\0\0\0\0\0\0\0\x0a\0\0\0"),
     Place(b"\x91\x03\0\0\0\0\0\0"),
     Bytes(b"\x01\0\0\0\0\0\0\0\x01\0\0\0\0\0\0\0\x03\x06\0\0\0\0\0\0\0elkbee"),
-    Bytes(b"\x04\0\0\0\0\0\0\0\0\0\0\0\0\0\0\0\0"),
+    Bytes(b"\x04\0\0\0\0\0\0\0\0\0\0\0\0\0\0\0"),
+    Upper,
+    Bytes(b"\0"),
     // Pending, of elkbee: the lines 6 at 506 and 8 at 712.
     Bytes(b"\x02\0\0\0\0\0\0\0"),
     Bytes(b"\x01\0\0\0\0\0\0\0\x03\x06\0\0\0\0\0\0\0elkbee\x02\0\0\0\x02\0\0\0\0\0\0\0"),
@@ -89,9 +95,9 @@ const ONE_FOUND: &[Part] = &[Bytes(b"\x01\0\0\0\0\0\0\0\x01\0\0\0\0\0\0\0\0\0\0\
 /// A book that no run has: one found, and two listed.
 const TWO_LISTED: &[Part] = &[Bytes(b"\x01\0\0\0\0\0\0\0\x02\0\0\0\0\0\0\0\0\0\0\0\0\0\0\0")];
 
-/// The bytes of both areas of a disk, part by part. Where an area has none it stays as it is.
+/// The bytes of both areas of a disk, part by part, and the format of the cuts among them. Where an area has none it stays as it is.
 struct Disk {
-    has_places: bool,
+    format: u8,
     first: &'static [&'static [Part]],
     second: &'static [&'static [Part]],
 }
@@ -106,7 +112,7 @@ macro_rules! area {
 /// The disk that the run left in format 1: the cut after five lines in the first area with generation 1, and the cut after ten
 /// lines in the second with generation 2. An open area begins with its generation and the length of its text.
 static FIRST_FORMAT: Disk = Disk {
-    has_places: false,
+    format: 1,
     first: area!(
         b"\x01\x01\0\0\0\0\0\0\0\x90\x02\0\0\0\0\0\0EQLC\x01",
         AFTER_FIVE,
@@ -121,7 +127,7 @@ static FIRST_FORMAT: Disk = Disk {
 
 /// The same in format 2.
 static SECOND_FORMAT: Disk = Disk {
-    has_places: true,
+    format: 2,
     first: area!(
         b"\x01\x01\0\0\0\0\0\0\0\xa8\x02\0\0\0\0\0\0EQLC\x02",
         AFTER_FIVE,
@@ -134,9 +140,24 @@ static SECOND_FORMAT: Disk = Disk {
     ),
 };
 
+/// The same in format 3.
+static THIRD_FORMAT: Disk = Disk {
+    format: 3,
+    first: area!(
+        b"\x01\x01\0\0\0\0\0\0\0\xb8\x02\0\0\0\0\0\0EQLC\x03",
+        AFTER_FIVE,
+        NONE_FOUND
+    ),
+    second: area!(
+        b"\x01\x02\0\0\0\0\0\0\0\xfe\x02\0\0\0\0\0\0EQLC\x03",
+        AFTER_TEN,
+        ONE_FOUND
+    ),
+};
+
 /// A disk with the cut after ten lines, of the last generation that there is.
 static LAST_GENERATION: Disk = Disk {
-    has_places: true,
+    format: 2,
     first: &[],
     second: area!(
         b"\x01\0\0\0\0\0\0\0\x80\xee\x02\0\0\0\0\0\0EQLC\x02",
@@ -147,7 +168,7 @@ static LAST_GENERATION: Disk = Disk {
 
 /// A disk with a cut that fits no run.
 static UNFIT: Disk = Disk {
-    has_places: true,
+    format: 2,
     first: area!(
         b"\x01\x01\0\0\0\0\0\0\0\xee\x02\0\0\0\0\0\0EQLC\x02",
         AFTER_TEN,
@@ -158,7 +179,7 @@ static UNFIT: Disk = Disk {
 
 /// A disk whose first area holds a text of one byte.
 static DAMAGED: Disk = Disk {
-    has_places: true,
+    format: 2,
     first: &[&[Bytes(b"\x01\x01\0\0\0\0\0\0\0\x01\0\0\0\0\0\0\0\0")]],
     second: &[],
 };
@@ -168,35 +189,35 @@ const LINE: &[&[Part]] = &[&[Bytes(b"{\"@timestamp\":1000}\n")]];
 
 /// A disk with a line as its first area.
 static FOREIGN_FIRST: Disk = Disk {
-    has_places: true,
+    format: 2,
     first: LINE,
     second: &[],
 };
 
 /// A disk with a line as its second area.
 static FOREIGN_SECOND: Disk = Disk {
-    has_places: true,
+    format: 2,
     first: &[],
     second: LINE,
 };
 
 /// A disk with a line as each area.
 static FOREIGN_BOTH: Disk = Disk {
-    has_places: true,
+    format: 2,
     first: LINE,
     second: LINE,
 };
 
 /// A disk whose first area has the byte 1 alone.
 static OPEN_BYTE: Disk = Disk {
-    has_places: true,
+    format: 2,
     first: &[&[Bytes(b"\x01")]],
     second: &[],
 };
 
 /// A disk whose first area has the byte 0 before a line.
 static CLOSED_LINE: Disk = Disk {
-    has_places: true,
+    format: 2,
     first: &[&[Bytes(b"\0{\"@timestamp\":1000}\n")]],
     second: &[],
 };
@@ -206,6 +227,7 @@ fn written_on(held: Held) -> Option<&'static Disk> {
     match held {
         Held::FirstFormat => Some(&FIRST_FORMAT),
         Held::SecondFormat => Some(&SECOND_FORMAT),
+        Held::ThirdFormat => Some(&THIRD_FORMAT),
         Held::LastGeneration => Some(&LAST_GENERATION),
         Held::Unfit => Some(&UNFIT),
         Held::Damaged | Held::DamagedBefore => Some(&DAMAGED),
@@ -219,7 +241,7 @@ fn written_on(held: Held) -> Option<&'static Disk> {
 }
 
 /// Writes the bytes of an area, where there are some.
-fn write_area(area: &mut Vec<u8>, written: &[&[Part]], has_places: bool) -> Result<(), AllocError> {
+fn write_area(area: &mut Vec<u8>, written: &[&[Part]], format: u8) -> Result<(), AllocError> {
     if !written.is_empty() {
         area.clear();
     }
@@ -227,8 +249,9 @@ fn write_area(area: &mut Vec<u8>, written: &[&[Part]], has_places: bool) -> Resu
         for part in *parts {
             match *part {
                 Bytes(bytes) => area.extend_from_slice(bytes)?,
-                Place(place) if has_places => area.extend_from_slice(place)?,
-                Place(_) => {}
+                Place(place) if format > 1 => area.extend_from_slice(place)?,
+                Upper if format > 2 => area.extend_from_slice(&[0; 16])?,
+                Place(_) | Upper => {}
             }
         }
     }
@@ -238,8 +261,8 @@ fn write_area(area: &mut Vec<u8>, written: &[&[Part]], has_places: bool) -> Resu
 /// Writes what is written by hand of what a disk holds.
 pub(crate) fn write_areas(held: Held, areas: &mut Areas) -> Result<(), AllocError> {
     if let Some(disk) = written_on(held) {
-        write_area(&mut areas.first, disk.first, disk.has_places)?;
-        write_area(&mut areas.second, disk.second, disk.has_places)?;
+        write_area(&mut areas.first, disk.first, disk.format)?;
+        write_area(&mut areas.second, disk.second, disk.format)?;
     }
     Ok(())
 }

@@ -66,6 +66,8 @@ pub(crate) enum Held {
     FirstFormat,
     /// The cuts of the first run in format 2.
     SecondFormat,
+    /// The cuts of the first run in format 3.
+    ThirdFormat,
     /// A cut of the last generation that there is.
     LastGeneration,
     /// A cut that fits no run.
