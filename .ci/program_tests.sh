@@ -152,8 +152,8 @@ refuse 'mapping: MapLong' any.eql too-long.json
 refuse 'check: ManyFields 65' fields-65.eql most.json
 
 # Checkpoints: a run keeps its state in two files, and a later run goes on from there. The first run keeps a cut after five lines
-# and one after ten, since it has no hands: with hands rounds read other numbers of lines. Its disk is tried as it is, and in the
-# formats that older versions left.
+# and one after ten, since it has no hands: with hands rounds read other numbers of lines. Its disk is tried as it is, byte for byte as
+# make_disk.py writes it, and in the formats that older versions left.
 events() { printf '{"@timestamp":%s,"event":{"category":"process"},"user":{"name":"%s"},"process":{"name":"%s"}}\n' "$@"; }
 events 1000 root attrib 2000 root attrib 3000 elkbee bash 4000 root bash 5000 root bash 6000 elkbee attrib 7000 root attrib \
     8000 elkbee bash 9000 root cat 10000 elkbee cat 11000 root cat >eleven.json
@@ -198,12 +198,17 @@ for hands in 1 2 4; do
     done
 done
 places=$'2 ["elkbee"] 0:6@506 0:8@712 0:10@913\n'
-for format in 1 2 3; do
+for format in 1 2 3 4; do
     wants python3 2 || continue
-    "$top/.ci/make_disk.py" "$format" "old-$format" "$top/.ci/old_cuts.json"
+    "$top/.ci/make_disk.py" "$format" "old-$format" "$top/.ci/old_cuts.json" eleven.json
     resume "format $format" "old-$format" --batch 7
     expect "checkpoint: format $format, places" 0 "$places" "$eleven" "${kept[@]}" --places --checkpoint "old-$format" --every 9 eleven.json
 done
+if wants python3; then
+    want '' ''
+    cmp first.0 old-4.0 >got.out 2>got.err && cmp first.1 old-4.1 >>got.out 2>>got.err
+    judge 'checkpoint: the bytes of both cuts' $? 0
+fi
 
 # Status 7: each reason for which a checkpoint is refused. The disk stays as it is; a file that isn't there is made, and stays empty.
 not_resumed() { # TOLD DISK WORD..
@@ -243,17 +248,57 @@ not_resumed 'Differs slack' c --query kept.eql --fields kept.json --slack 1ms el
 not_resumed 'Differs shards' c "${words[@]}" eleven.json empty
 sed 's/"listed": 1/"listed": 2/' "$top/.ci/old_cuts.json" >unfit.json
 if wants python3; then
-    "$top/.ci/make_disk.py" 3 unfit unfit.json
+    "$top/.ci/make_disk.py" 4 unfit unfit.json eleven.json
     not_resumed Unfit unfit "${words[@]}" eleven.json
 fi
 not_resumed 'Short shard 0 offset 1015 had 506' c "${words[@]}" five.json
 if wants python3; then not_resumed 'NoLine shard 0 line 6' old-1 "${words[@]}" spaced.json; fi
+# Other bytes than those that were read. Those behind them may be others, and a shard that is short is told as that.
+sed '1s/root/rood/' eleven.json >other.json
+sed '11s/cat/vi/' eleven.json >other-behind.json
+{ tail -n +6 eleven.json; events 12000 root attrib 13000 elkbee bash 14000 root bash 15000 root cat 16000 elkbee cat; } >rotated.json
+events 21000 mia attrib 22000 mia attrib 23000 elkbee bash 24000 mia bash 25000 mia bash 26000 elkbee attrib 27000 mia attrib \
+    28000 elkbee bash 29000 mia cat 30000 elkbee cat 31000 mia cat >another.json
+for other in other another rotated spaced; do
+    for hands in 0 3; do not_resumed 'Differs shard 0' c "${words[@]}" --hands "$hands" "$other.json"; done
+done
+input=other.json not_resumed 'Differs shard 0' c "${words[@]}" /dev/stdin
+not_resumed 'Differs query' c --query piped.eql --fields kept.json --slack 0ms other.json
+expect 'checkpoint: other bytes behind those that were read' 0 "$rest" "$eleven" \
+    "${kept[@]}" --checkpoint c --every 5 other-behind.json
+# A cut of an older format has no digests. The next cut has them.
+for format in 1 2 3; do
+    wants python3 4 || continue
+    cp "old-$format.0" renewed.0 && cp "old-$format.1" renewed.1
+    expect "checkpoint: format $format, other bytes" 0 "$rest" "$eleven" "${kept[@]}" --checkpoint renewed --every 9 other.json
+    expect "checkpoint: format $format, a new cut" 0 "$rest" "$eleven" "${kept[@]}" "${often[@]}" --checkpoint renewed --every 1 eleven.json
+    expect "checkpoint: format $format, a run from the new cut" 0 '' "$eleven" "${kept[@]}" --checkpoint renewed --every 9 eleven.json
+    not_resumed 'Differs shard 0' renewed "${words[@]}" other.json
+done
+# A bit of the newer cut that was turned round, in its mark and in its checksum. The older cut serves once this file is moved away.
+for place in 412 870; do
+    cp c.0 turned.0
+    cp c.1 turned.1
+    printf %b "\\x$(printf %02x $((0x$(od -An -tx1 -j "$place" -N 1 c.1 | tr -d ' ') ^ 1)))" |
+        dd of=turned.1 bs=1 seek="$place" conv=notrunc status=none
+    not_resumed 'Damaged area 1 at 846' turned "${words[@]}" eleven.json
+done
+rm turned.1
+expect 'checkpoint: the older cut, once the newer one is moved away' 0 "$both" "$eleven" \
+    "${kept[@]}" --checkpoint turned --every 9 eleven.json
 events 1000 root vi >one.json
 expect 'checkpoint: two shards' 0 $'1 ["root"] 1:2 1:4 1:9\n2 ["elkbee"] 1:6 1:8 1:10\n' \
     $'shard 0: lines 1 accepted 1 late 0 rejected 0\nshard 1: lines 11 accepted 11 late 0 rejected 0\n' \
     "${kept[@]}" --batch 1 --hands 0 --checkpoint two --every 5 one.json eleven.json
 { cat one.json; printf ' '; } >grown.json
 not_resumed 'Grown shard 0' two "${words[@]}" grown.json eleven.json
+# Two shards of which some differ: the first is told. One that is read to its end is told as another one before it is told as grown.
+not_resumed 'Differs shard 0' two "${words[@]}" eleven.json one.json
+not_resumed 'Differs shard 1' two "${words[@]}" one.json other.json
+not_resumed 'Grown shard 0' two "${words[@]}" grown.json other.json
+sed 's/root/rood/' grown.json >other-grown.json
+not_resumed 'Differs shard 0' two "${words[@]}" other-grown.json other.json
+not_resumed 'Short shard 0 offset 98 had 0' two "${words[@]}" empty other.json
 # Its disk is held: a lock of another process, another run, and files that the run reads too or that are one, by whatever links.
 flock c.0 "$program" "${kept[@]}" --checkpoint c --every 5 eleven.json >got.out 2>got.err
 status=$?
@@ -399,7 +444,7 @@ no_disk 'a path through a file' eleven.json/c
 ln -s /dev/full full.0
 no_disk 'a device without room' full
 if wants python3; then
-    cp old-2.1 last.1
+    cp old-4.1 last.1
     printf '\0\0\0\0\0\0\0\200' | dd of=last.1 bs=1 seek=1 conv=notrunc status=none
     expect 'checkpoint: the last generation' 9 "$rest" $'limit: generation\n' \
         "${kept[@]}" --batch 1 --hands 0 --checkpoint last --every 1 eleven.json

@@ -143,8 +143,8 @@ rm -rf tree/crates/*/out
 head -c 1000000 /dev/zero >tree/crates/eql_merge/src/long.rt
 : >"$RT_LOG"
 (cd elsewhere && PATH=$with ./eql) >/dev/null 2>&1
-head -n 3 "$RT_LOG" >got.out
-same 'the longest chain comes first' $'eql_values lib\neql_laws lib\neql_merge lib\n'
+head -n 4 "$RT_LOG" >got.out
+same 'the longest chain comes first' $'eql_digest lib\neql_values lib\neql_laws lib\neql_merge lib\n'
 rm tree/crates/eql_merge/src/long.rt
 
 # Crates side by side: the first and another one that stands on none.

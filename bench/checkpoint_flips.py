@@ -1,14 +1,18 @@
 #!/usr/bin/env python3
-"""Turns round each bit of the newer area of three checkpoints, one at a time, and goes on from each: how often what a run lists or
-reports is wrong while its status is 0.
+"""Turns round each bit of the newer area of three checkpoints, one at a time, overwrites 134 blocks of each with other bytes, and goes on
+from each. None may list or report what is wrong while its status is 0: where one does, or ends with a status other than 0 and 7, the
+status of this script is 1.
 
-usage: bench/checkpoint_flips.py [PROGRAM]        PROGRAM is the built program, crates/eql/out/eql where none is given
+usage: bench/checkpoint_flips.py [--short] [PROGRAM]      PROGRAM is the built program, crates/eql/out/eql where none is given
+
+With --short it turns round one bit of each eighth byte, at random, and each bit of the first 22 bytes: those of the head and of the
+format; and it overwrites no block. A block has up to 512 bytes, and may go on behind the end.
 
 Each checkpoint is that of a run over made logs of 58 lines a shard, some of them late or rejected, which puts a cut after 18 rounds of a
 line of each shard and one after 36. What a later run lists is right where it is an end of the listing of an unbroken run, with all lines
 that a run lists from the cut as it was, since it may go on from an older cut. The report has to be that of the unbroken run. Of each
 checkpoint it prints how many bits there are, and after how many of them a run refuses the checkpoint, is right, lists what is wrong,
-reports what is wrong behind a right listing, or ends otherwise; and the first bits after which it is wrong.
+reports what is wrong behind a right listing, or ends otherwise; and the first bits after which it is wrong. The same of blocks.
 """
 import concurrent.futures
 import os
@@ -20,6 +24,11 @@ from collections import Counter
 
 TOP = os.path.dirname(os.path.dirname(os.path.abspath(__file__)))
 FIELDS = '{"user.name":"keyword","process.name":"keyword","n":"long","flag":"boolean","source.ip":"ip","event.sequence":"long"}'
+# The bytes of an area before the text, and those of the text up to its format.
+HEAD = 22
+# How many blocks of each checkpoint are overwritten.
+BLOCKS = 134
+WRONG = ("listing", "report", "otherwise")
 # Of each checkpoint its query, its options and the number of shards.
 CHECKPOINTS = {
     "a sequence of three stages": (
@@ -91,13 +100,23 @@ class Flips:
             os.unlink(f"{self.folder}/{name}.{area}")
         return ended
 
-    def after(self, bit: int) -> str:
+    def after_bit(self, bit: int) -> str:
         """How a run ends that goes on after this bit was turned round."""
-        areas = list(self.areas)
-        turned = bytearray(areas[self.newer])
+        turned = bytearray(self.areas[self.newer])
         turned[bit // 8] ^= 1 << bit % 8
-        areas[self.newer] = bytes(turned)
-        status, listed, reported = self.run_from(areas, f"bit-{bit}")
+        return self.after(bytes(turned), f"bit-{bit}")
+
+    def after_block(self, number: int) -> str:
+        """How a run ends that goes on after a block was overwritten, which is made by its number."""
+        pick, text = random.Random(number), self.areas[self.newer]
+        at, size = pick.randrange(len(text)), pick.randrange(1, 513)
+        return self.after(text[:at] + pick.randbytes(size) + text[at + size:], f"block-{number}")
+
+    def after(self, newer: bytes, name: str) -> str:
+        """How a run ends that goes on from this newer area."""
+        areas = list(self.areas)
+        areas[self.newer] = newer
+        status, listed, reported = self.run_from(areas, name)
         if status == 7:
             return "refused"
         if status != 0:
@@ -108,29 +127,46 @@ class Flips:
         return "right" if reported == self.whole[2] else "report"
 
 
-def tell(name: str, ends: list[str]) -> None:
+def tell(name: str, ends: list[str], what: str) -> None:
     count = Counter(ends)
     wrong = count["listing"] + count["report"]
-    print(f"{name}: {len(ends)} bits: {count['refused']} refused, {count['right']} right, {wrong} wrong ({100 * wrong / len(ends):.2f} %:"
+    print(f"{name}: {len(ends)} {what}: {count['refused']} refused, {count['right']} right, {wrong} wrong ({100 * wrong / len(ends):.2f} %:"
           f" {count['listing']} listings, {count['report']} reports), {count['otherwise']} otherwise")
 
 
-def main(program: str) -> None:
+def bits_of(size: int, short: bool) -> list[int]:
+    """The bits that are turned round in an area of this size."""
+    if not short:
+        return list(range(8 * size))
+    pick = random.Random(4)
+    return [*range(8 * HEAD), *(8 * byte + pick.randrange(8) for byte in range(HEAD, size, 8))]
+
+
+def main(program: str, short: bool) -> int:
     every: list[str] = []
+    blocks: list[str] = []
     for name, (query, options, shards) in CHECKPOINTS.items():
         with tempfile.TemporaryDirectory() as folder:
             flips = Flips(os.path.realpath(program), folder, query, options, shards)
+            bits = bits_of(len(flips.areas[flips.newer]), short)
             with concurrent.futures.ThreadPoolExecutor(os.cpu_count()) as pool:
-                ends = list(pool.map(flips.after, range(8 * len(flips.areas[flips.newer]))))
-        tell(name, ends)
-        wrong = [f"{bit // 8}.{bit % 8}" for bit, end in enumerate(ends) if end in ("listing", "report")]
+                ends = list(pool.map(flips.after_bit, bits))
+                blocks += [] if short else pool.map(flips.after_block, range(BLOCKS))
+        tell(name, ends, "bits")
+        wrong = [f"{bit // 8}.{bit % 8}" for bit, end in zip(bits, ends) if end in WRONG]
         if wrong:
             print(f"    wrong, as byte.bit: {' '.join(wrong[:20])}{' ..' if len(wrong) > 20 else ''}")
         every += ends
-    tell("all", every)
+    tell("all", every, "bits")
+    if blocks:
+        tell("all", blocks, "blocks")
+    return 1 if any(end in WRONG for end in every + blocks) else 0
 
 
 if __name__ == "__main__":
-    if len(sys.argv) > 2:
-        sys.exit("usage: checkpoint_flips.py [PROGRAM]")
-    main(sys.argv[1] if len(sys.argv) > 1 else f"{TOP}/crates/eql/out/eql")
+    words = sys.argv[1:]
+    is_short = words[:1] == ["--short"]
+    words = words[is_short:]
+    if len(words) > 1:
+        sys.exit("usage: checkpoint_flips.py [--short] [PROGRAM]")
+    sys.exit(main(words[0] if words else f"{TOP}/crates/eql/out/eql", is_short))
